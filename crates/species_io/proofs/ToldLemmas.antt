@@ -1,7 +1,12 @@
 -- Lemmas on bytes that were moved.
 use Rattle.std.proofs.Common.{◌≡◌, ◌≤◌, ◌+◌, ◌-◌, ◌++◌, ℕ, List, length, take, drop, Option, Some, None, refl, ap, sym, ◌∙◌, arith, append_assoc, take-append-drop, take_all, length-drop, length-take-le, drop-drop}
 use Rattle.std.proofs.Math.Seq.{take-append_seam}
-use Rattle.species_io.specs.Told.{then_bytes}
+use Rattle.species_io.specs.Told.{before, then_bytes}
+
+-- a source that gave a and then b gave a ++ b
+pub before-before : (a b : List ℕ) (told : Option (List ℕ)) → before a (before b told) ≡ before (a ++ b) told
+before-before a b None = refl
+before-before a b (Some rest) = ap (λ l. Some l) (sym (append_assoc a b rest))
 
 -- a sink that took a and then b took a ++ b
 pub then_bytes-then_bytes : (told : Option (List ℕ)) (a b : List ℕ) → then_bytes (then_bytes told a) b ≡ then_bytes told (a ++ b)

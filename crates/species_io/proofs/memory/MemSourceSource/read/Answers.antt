@@ -1,4 +1,4 @@
-use Rattle.std.proofs.Common.{rules, ◌≡◌, ◌+◌, ◌++◌, ◌-◌, ◌≤◌, List, ℕ, length, take, drop, Some, ap, arith, sym, ◌∙◌}
+use Rattle.std.proofs.Common.{rules, ◌≡◌, ◌+◌, ◌++◌, ◌-◌, ◌≤◌, List, ℕ, length, take, drop, take_all, length-drop, Some, ap, arith, sym, ◌∙◌}
 use Rattle.species_io.proofs.ToldLemmas.{copied_on}
 use Rattle.species_io.proofs.memory.MemSourceSource.read.Goals as goal
 
@@ -8,6 +8,9 @@ returns-clause-took c =
     let at = c.self.inside.at in
     let bytes = c.self.inside.bytes.items in
     let n = c.min-n.result in
-    let fits : at + n ≤ length bytes = ? in
-    let is : copied ≡ take n (drop at bytes) = ? in
+    let fits : at + n ≤ length bytes = search rules in
+    let all = c.deref-2.result.now in
+    let is : copied ≡ take n (drop at bytes) =
+    c.copy_from_slice.ensures.after ∙ ap (λ x. take n x) (take_all (length all - at) (drop at all) (omega (arith, length-drop at all)))
+    ∙ ap (λ x. take n (drop at x)) c.deref-2.ensures.value in
     ap (λ s. Some s.bytes) (sym c.self.view_is) ∙ ap (λ x. Some x) (copied_on bytes copied (drop n c.args.buf.now) at n is fits)
