@@ -1,4 +1,4 @@
-ghost use Rattle.std.specs.Prelude.{◌≡◌, ◌≤◌, length, IfOk, OnOk, OnErr};
+ghost use Rattle.std.specs.Prelude.{◌≡◌, ◌≤◌, ◌<◌, length, IfOk, OnOk, OnErr};
 ghost use Rattle.species_io.specs.Told.{next_number};
 
 use crate::sink::Sink;
@@ -39,7 +39,12 @@ impl<R: Read> Source for StdSource<R> {
     ghost left = { λ _. None };
 
     /// An error of any kind is a fault.
-    fn read(&mut self, buf: &mut [u8]) -> Result<usize, Failed> {
+    fn read(&mut self, buf: &mut [u8]) -> Result<usize, Failed>
+        ensures within { IfOk result (λ n. n ≤ length buf.old) }
+        ensures ok { OnOk result (self.new ≡ self.old) }
+        ensures err { OnErr result (self.new ≡ next_number self.old) }
+        ensures never_falls { self.old ≤ self.new }
+    {
         match self.inner.read(buf) {
             Ok(n) => Ok(n),
             Err(_) => {
@@ -91,7 +96,13 @@ impl<W: Write> Sink for StdSink<W> {
 
     /// An error of any kind is a fault, a flush that fails is one, and so is a write that takes no
     /// byte of a piece that has some.
-    fn write(&mut self, piece: &[u8]) -> Result<usize, Failed> {
+    fn write(&mut self, piece: &[u8]) -> Result<usize, Failed>
+        ensures within { IfOk result (λ n. n ≤ length piece.now) }
+        ensures some { IfOk result (λ n. 0 < length piece.now → 0 < n) }
+        ensures ok { OnOk result (self.new ≡ self.old) }
+        ensures err { OnErr result (self.new ≡ next_number self.old) }
+        ensures never_falls { self.old ≤ self.new }
+    {
         match write_and_flush(&mut self.inner, piece) {
             Ok(n) if 0 < n || piece.is_empty() => Ok(n),
             _ => {

@@ -1,4 +1,4 @@
-use Rattle.std.proofs.Common.{rules, ◌≡◌, ◌≤◌, ◌+◌, ◌++◌, ℕ, List, take, length, length-append, length-take, arith, ap, ◌∙◌}
+use Rattle.std.proofs.Common.{rules, ◌≤◌, ◌+◌, ◌++◌, take, length, length-append, length-take, arith, ap, ◌∙◌}
 use Rattle.species_io.specs.Told.{before}
 use Rattle.species_io.proofs.ToldLemmas.{before-before}
 use Rattle.species_io.proofs.whole.read_whole.Goals as goal

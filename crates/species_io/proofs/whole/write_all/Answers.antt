@@ -6,8 +6,7 @@ use Rattle.species_io.proofs.whole.write_all.Goals as goal
 pub loop-rest-preserved : goal.loop-rest-preserved
 loop-rest-preserved g c =
     let handed = c.loop-rest.invariant.0 in
-    let piece = take c.in_ok-n.n c.loop-rest.rest.now in
-    (
+    let piece = take c.in_ok-n.n c.loop-rest.rest.now in (
       (
         handed.0 ++ piece,
         cut c.args.bytes.now handed.0 c.loop-rest.rest.now c.in_ok-n.n handed.1,

@@ -1,4 +1,4 @@
-use Rattle.std.proofs.Common.{rules, ◌≡◌, ◌+◌, ◌++◌, ◌-◌, ◌≤◌, List, ℕ, length, take, drop, take_all, length-drop, Some, ap, arith, sym, ◌∙◌}
+use Rattle.std.proofs.Common.{rules, ◌≡◌, ◌+◌, ◌-◌, ◌≤◌, length, take, drop, take_all, length-drop, Some, ap, arith, sym, ◌∙◌}
 use Rattle.species_io.proofs.ToldLemmas.{copied_on}
 use Rattle.species_io.proofs.memory.MemSourceSource.read.Goals as goal
 
