@@ -1,2 +1,3 @@
 pub mod Line
 pub mod Token
+pub mod Text

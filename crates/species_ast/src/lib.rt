@@ -6,12 +6,14 @@
 
 mod memory;
 mod text;
+mod text_law;
 mod token;
 mod tree;
 
 pub use memory::OutOfMemory;
 pub use text::{Dims, Includes, LineText, Name};
-pub use token::TokenKind;
+pub use text_law::law_text;
+pub use token::{LexRefusal, TokenKind};
 pub use tree::{
     Array, Binary, Expr, Kind, LocalInfo, Loop, Mark, Schedule, Stmt, Test, Unary, Unit, Value,
 };
