@@ -1,17 +1,16 @@
 -- Each text is cut in one way.
-use Rattle.std.proofs.Common.{◌≡◌, ◌∙◌, ap, sym, refl, subst, ℕ, zero, suc, ◌+◌, ◌-◌, ◌<◌, ◌≤◌, Bool, true, false, List, [], ◌∷◌, length, take, drop, Option, Some, None, Result, Ok, Err, arith, length-drop}
+use Rattle.std.proofs.Common.{◌≡◌, ◌∙◌, ap, sym, refl, subst, ℕ, zero, suc, ◌+◌, ◌<◌, ◌≤◌, Bool, true, false, List, [], ◌∷◌, length, take, drop, Option, Some, None, Result, Ok, Err, arith, length-drop}
 use Rattle.std.specs.Prelude.{option_map}
 use Rattle.species_ast.specs.declared.tree.Value.{Value}
-use Rattle.species_ast.specs.declared.token.TokenKind.{TokenKind}
 use Rattle.species_ast.specs.declared.token.TokenKind.TheVariants as kind
 use Rattle.species_ast.specs.declared.token.LexRefusal.{LexRefusal}
-use Rattle.species_ast.specs.Text.Characters.{is_word_byte, run_of, line_len}
+use Rattle.species_ast.specs.Text.Characters.{line_len}
 use Rattle.species_ast.specs.Text.Comments.{closing_len, comment_len, splice_at}
 use Rattle.species_ast.specs.Text.Numbers.{run_more, literal_of}
 use Rattle.species_ast.specs.Text.Words.{punctuator_len}
 use Rattle.species_ast.specs.Text.Directives.{Form, Skipped, Read, Macro, Wrong, form_of}
-use Rattle.species_ast.specs.Text.Pieces.{Piece, Space, Lexeme, Define, Refused, line_comment, block_comment, number, punctuator, unless_spliced, directive, defined_as, Start, Blank, LineComment, BlockComment, Letter, Digit, Hash, Other, start_of, piece_in, piece_of}
-use Rattle.species_ast.specs.Text.Stream.{TokenStream, Definition, look_up, define_once, in_scope, defined_by, moved, head_behind, put, finished, refused, Cut, IsCut, cut_piece, cut_at, stream_of}
+use Rattle.species_ast.specs.Text.Pieces.{Piece, Space, Lexeme, Define, Refused, line_comment, block_comment, number, punctuator, unless_spliced, directive, Start, Blank, LineComment, BlockComment, Letter, Digit, Hash, Other, start_of, piece_in, piece_of}
+use Rattle.species_ast.specs.Text.Stream.{TokenStream, Definition, look_up, define_once, in_scope, defined_by, head_behind, put, finished, Cut, cut_piece, cut_at}
 use Rattle.species_ast.specs.Text.Law.{CutsOneWay}
 
 -- how many bytes a piece has, and 1 for a refusal

@@ -1,5 +1,5 @@
 -- Comments (C17 6.4.9) and line splices (C17 5.1.1.2, phase 2).
-use Rattle.std.specs.Prelude.{ℕ, zero, suc, ◌+◌, ◌-◌, Bool, if◌then◌else◌, List, [], ◌∷◌, length, take, drop, codes, nat_lt, nat_eq, Option, Some, None, option_map, unwrap_or}
+use Rattle.std.specs.Prelude.{ℕ, zero, suc, ◌+◌, ◌-◌, if◌then◌else◌, List, [], ◌∷◌, length, take, drop, codes, nat_lt, nat_eq, Option, Some, None, option_map, unwrap_or}
 use Rattle.std.specs.List.{ends_with}
 use Rattle.species_ast.specs.Text.Characters.{is_blank, begins, line_len}
 

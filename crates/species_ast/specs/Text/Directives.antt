@@ -1,5 +1,5 @@
 -- What stands on a line that begins with `#` (C17 6.10): every function takes the whole line, with its `#`.
-use Rattle.std.specs.Prelude.{ℕ, suc, ◌+◌, ◌-◌, Bool, true, false, not, ◌||◌, ◌&&◌, nat_eq, nat_lt, if◌then◌else◌, List, [], ◌∷◌, length, take, drop, codes, bytes_eq, slice_range, Option, Some, None, position, option_map}
+use Rattle.std.specs.Prelude.{ℕ, ◌+◌, Bool, false, not, ◌||◌, ◌&&◌, nat_eq, if◌then◌else◌, List, [], ◌∷◌, length, take, drop, codes, bytes_eq, slice_range, Option, Some, None, position, option_map}
 use Rattle.species_ast.specs.Text.Characters.{is_letter, is_digit, is_word_byte, begins, run_of}
 use Rattle.species_ast.specs.Text.Comments.{gap_len, content_len}
 use Rattle.species_ast.specs.Text.Words.{is_keyword}

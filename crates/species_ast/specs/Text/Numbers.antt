@@ -1,5 +1,5 @@
 -- Number runs (C17 6.4.8) and the literals among them (C17 6.4.4.1).
-use Rattle.std.specs.Prelude.{ℕ, suc, ◌+◌, ◌-◌, Bool, true, false, not, ◌||◌, ◌&&◌, ◌==◌, nat_le, nat_lt, nat_eq, if◌then◌else◌, List, [], ◌∷◌, length, take, drop, codes, pos, Option, Some, None}
+use Rattle.std.specs.Prelude.{ℕ, suc, ◌-◌, Bool, not, ◌||◌, ◌&&◌, ◌==◌, nat_le, nat_lt, nat_eq, if◌then◌else◌, List, [], ◌∷◌, length, take, drop, codes, pos, Option, Some, None}
 use Rattle.std.specs.List.{list_all, ends_with}
 use Rattle.std.specs.Str.Parse.{digits_value}
 use Rattle.species_ast.specs.Text.Characters.{is_digit, is_hex_digit, is_word_byte, begins}

@@ -1,5 +1,5 @@
 -- The parts of a directive's content: words, number runs, and single other bytes (C17 6.4, preprocessing tokens).
-use Rattle.std.specs.Prelude.{ℕ, zero, suc, ◌+◌, ◌-◌, Bool, if◌then◌else◌, List, [], ◌∷◌, length, take, drop, bytes_eq, Option, Some, None}
+use Rattle.std.specs.Prelude.{ℕ, zero, suc, ◌+◌, Bool, if◌then◌else◌, List, [], ◌∷◌, length, take, drop, bytes_eq, Option, Some, None}
 use Rattle.species_ast.specs.Text.Characters.{is_letter, is_digit, is_word_byte, run_of}
 use Rattle.species_ast.specs.Text.Comments.{gap_len}
 use Rattle.species_ast.specs.Text.Numbers.{run_more}

@@ -1,5 +1,5 @@
 -- What stands at the front of some bytes: a blank, a comment, a directive, a token, or what is none of these.
-use Rattle.std.specs.Prelude.{ℕ, zero, suc, ◌+◌, ◌-◌, Bool, true, false, if◌then◌else◌, nat_eq, List, [], ◌∷◌, length, take, drop, codes, Option, Some, None, Result, Ok, Err}
+use Rattle.std.specs.Prelude.{ℕ, zero, suc, Bool, true, false, if◌then◌else◌, nat_eq, List, ◌∷◌, take, codes, Option, Some, None, Result, Ok, Err}
 use Rattle.species_ast.specs.Text.Characters.{is_blank, is_letter, is_digit, is_word_byte, begins, run_of, line_len}
 use Rattle.species_ast.specs.Text.Comments.{comment_len, splice_at}
 use Rattle.species_ast.specs.Text.Numbers.{run_more, literal_of}

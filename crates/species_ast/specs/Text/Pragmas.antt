@@ -72,4 +72,4 @@ or_else None other = other
 unfoldable pub openmp_of : List Part → Option TokenKind
 openmp_of ps =
     or_else (option_and_then parallel_of (after_words (codes "omp" ∷ codes "parallel" ∷ codes "for" ∷ []) ps))
-        (option_and_then atomic_of (after_words (codes "omp" ∷ codes "atomic" ∷ codes "update" ∷ []) ps))
+    (option_and_then atomic_of (after_words (codes "omp" ∷ codes "atomic" ∷ codes "update" ∷ []) ps))

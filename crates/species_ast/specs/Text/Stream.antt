@@ -74,16 +74,16 @@ refused r = record { tokens = []; refusal = Some r }
 pub data Cut : ℕ → Bool → List Definition → List ℕ → TokenStream → Type 0 where
   ends : (place : ℕ) (is_head : Bool) (ds : List Definition) → Cut place is_head ds [] finished
   space : (place : ℕ) (is_head : Bool) (ds : List Definition) (b : ℕ) (bytes : List ℕ) (n : ℕ) (s : TokenStream)
-    → in_scope ds (piece_of is_head b bytes) ≡ Space n
-    → Cut (place + n) (head_behind is_head (take n (b ∷ bytes))) ds (drop n (b ∷ bytes)) s
-    → Cut place is_head ds (b ∷ bytes) s
+      → in_scope ds (piece_of is_head b bytes) ≡ Space n
+      → Cut (place + n) (head_behind is_head (take n (b ∷ bytes))) ds (drop n (b ∷ bytes)) s
+      → Cut place is_head ds (b ∷ bytes) s
   token : (place : ℕ) (is_head : Bool) (ds : List Definition) (b : ℕ) (bytes : List ℕ) (n : ℕ) (text : List ℕ) (k : TokenKind) (s : TokenStream)
-    → in_scope ds (piece_of is_head b bytes) ≡ Lexeme n text k
-    → Cut (place + n) false (defined_by text k ds) (drop n (b ∷ bytes)) s
-    → Cut place is_head ds (b ∷ bytes) (put (record { place = place; text = text; kind = k }) s)
+      → in_scope ds (piece_of is_head b bytes) ≡ Lexeme n text k
+      → Cut (place + n) false (defined_by text k ds) (drop n (b ∷ bytes)) s
+      → Cut place is_head ds (b ∷ bytes) (put (record { place = place; text = text; kind = k }) s)
   stops : (place : ℕ) (is_head : Bool) (ds : List Definition) (b : ℕ) (bytes : List ℕ) (r : LexRefusal)
-    → in_scope ds (piece_of is_head b bytes) ≡ Refused r
-    → Cut place is_head ds (b ∷ bytes) (refused (moved place r))
+      → in_scope ds (piece_of is_head b bytes) ≡ Refused r
+      → Cut place is_head ds (b ∷ bytes) (refused (moved place r))
 
 -- a whole text
 abbrev pub IsCut : List ℕ → TokenStream → Type 0
