@@ -1,3 +1,5 @@
 pub mod Folds
 pub mod Induction
 pub mod StripLaws
+pub mod Cutting
+pub mod Examples

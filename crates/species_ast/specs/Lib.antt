@@ -3,3 +3,4 @@ pub mod Marks
 pub mod Names
 pub mod Strip
 pub mod Token
+pub mod Text

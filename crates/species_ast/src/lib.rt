@@ -8,6 +8,7 @@ mod copies;
 mod memory;
 mod stripping;
 mod text;
+mod text_law;
 mod token;
 mod tree;
 
@@ -15,7 +16,8 @@ pub use copies::{copy, copy_expr, copy_exprs, copy_loop, copy_stmt, copy_stmts};
 pub use memory::OutOfMemory;
 pub use stripping::strip;
 pub use text::{Dims, Includes, LineText, Name};
-pub use token::TokenKind;
+pub use text_law::law_text;
+pub use token::{LexRefusal, TokenKind};
 pub use tree::{
     Array, Binary, Expr, Kind, LocalInfo, Loop, Mark, Schedule, Stmt, Test, Unary, Unit, Value,
 };
