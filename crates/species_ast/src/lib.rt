@@ -5,11 +5,16 @@
 #![tactic(auto)]
 
 mod memory;
+mod raw;
 mod text;
 mod token;
 mod tree;
 
 pub use memory::OutOfMemory;
+pub use raw::{
+    RawArray, RawChange, RawExpr, RawItem, RawLocal, RawLoop, RawName, RawOp, RawStep, RawStmt,
+    RawTarget, RawTerm, RawUnary, RawUnit, RawWhat,
+};
 pub use text::{Dims, Includes, LineText, Name};
 pub use token::TokenKind;
 pub use tree::{
