@@ -1,5 +1,5 @@
 -- More depth changes no answer, and enough of it is enough.
-use Rattle.std.proofs.Common.{◌≡◌, ◌∙◌, ap, sym, refl, subst, ℕ, zero, suc, ◌+◌, ◌-◌, ◌<◌, ◌≤◌, List, [], ◌∷◌, ◌++◌, length, Option, Some, None, Bool, true, false, arith, length-append, inl, inr}
+use Rattle.std.proofs.Common.{◌≡◌, ◌∙◌, ap, sym, refl, subst, ℕ, zero, suc, ◌+◌, ◌<◌, ◌≤◌, List, [], ◌∷◌, length, Option, Some, None, Bool, true, false, arith, length-append, inl, inr}
 use Rattle.std.specs.Prelude.{if◌then◌else◌}
 use Rattle.species_grammar.specs.Reader.{Answer, Reader, ◌>>=◌, Word, is_of, starts, said, word, nothing, both, mapped, choose, skip, ends, maybe, maybe_word, cons_of, many, until, joined, level}
 use Rattle.species_grammar.specs.Lawful.{Spelled, Before, Lawful, Less, Under, Enough, Takes}
@@ -81,9 +81,11 @@ both_enough {Tok} {A} {B} r q k n m t h e le ts lt d = go (bind_shallow (r ts) (
   where
     paired : A → B → Reader Tok (A × B)
     paired x y rest = Answer.read (x, y) rest
+
     go2 : (x : A) (us : List Tok) → length us < m → Shallow (q us) (paired x) → ⊥
     go2 x us l (Shallow.first f) = e us l f
     go2 x us l (Shallow.second y vs o f) = cc
+
     go : Shallow (r ts) (λ x us. q us >>= paired x) → ⊥
     go (Shallow.first f) = h ts lt f
     go (Shallow.second x us o f) =
@@ -129,8 +131,10 @@ both_takes {Tok} {A} {B} r q k j h t ts p rest d = go (bind_read (r ts) (λ x us
   where
     paired : A → B → Reader Tok (A × B)
     paired x y vs = Answer.read (x, y) vs
+
     go2 : (us : List Tok) (x : A) → k + length us ≤ length ts → Reads (q us) (paired x) p rest → (k + j) + length rest ≤ length ts
     go2 us x le (Reads.reads y vs o e) = let i : vs ≡ rest = same_rest e in omega (arith, le, t us y vs o, ap length i)
+
     go : Reads (r ts) (λ x us. q us >>= paired x) p rest → (k + j) + length rest ≤ length ts
     go (Reads.reads x us o e) = go2 us x (h ts x us o) (bind_read (q us) (paired x) p rest e)
 
@@ -172,11 +176,11 @@ until_enough (suc m) w r k h =
     let l : suc m ≤ 1 + m = omega arith in
     let le : m ≤ suc m = omega arith in
     choose_enough (is_of w) _ _ (suc m) (skip_enough w (nothing []) m (nothing_enough [] m))
-      (mapped_enough cons_of _ (suc m) (both_enough r (until m w r) 1 (suc m) m k h (until_enough m w r k (fewer_enough r (suc m) m le h)) l))
+    (mapped_enough cons_of _ (suc m) (both_enough r (until m w r) 1 (suc m) m k h (until_enough m w r k (fewer_enough r (suc m) m le h)) l))
 
 pub level_enough : {Tok A O : Type 0} (g : A → O → A → A) (m : ℕ) (c : Tok → Bool) (o : Reader Tok O) (r : Reader Tok A) → Takes o 1 → Enough o m → Takes r 1 → Enough r m → Enough (level g m c o r) m
 level_enough {Tok} {A} {O} g m c o r ko ho k h =
     let l0 : m ≤ 0 + m = omega arith in
     let l1 : m ≤ 1 + m = omega arith in
     mapped_enough (λ p. joined g p.0 p.1) _ m
-      (both_enough r (many m c (both o r)) 1 m m k h (many_enough m c (both o r) (both_takes o r 1 0 ko (fewer_takes r 1 k)) (both_enough o r 1 m m ko ho h l1)) l1)
+    (both_enough r (many m c (both o r)) 1 m m k h (many_enough m c (both o r) (both_takes o r 1 0 ko (fewer_takes r 1 k)) (both_enough o r 1 m m ko ho h l1)) l1)

@@ -1,7 +1,7 @@
 -- The laws of the readers that the combinators make.
-use Rattle.std.proofs.Common.{◌≡◌, ◌∙◌, ap, sym, refl, subst, ℕ, zero, suc, ◌+◌, ◌-◌, ◌<◌, ◌≤◌, List, [], ◌∷◌, ◌++◌, length, Option, Some, None, Bool, true, false, arith, length-append, append_assoc, append-nil, inl, inr}
-use Rattle.std.specs.Prelude.{if◌then◌else◌, ◌⊎◌, is_some}
-use Rattle.species_grammar.specs.Reader.{Answer, Reader, ◌>>=◌, Word, is_of, starts, said, word, nothing, both, mapped, choose, skip, ends, maybe, maybe_word, cons_of, too_shallow, many, until}
+use Rattle.std.proofs.Common.{◌≡◌, ◌∙◌, ap, sym, refl, subst, ℕ, zero, suc, ◌<◌, List, [], ◌∷◌, ◌++◌, length, Option, Some, None, Bool, true, false, arith, append_assoc, inl, inr}
+use Rattle.std.specs.Prelude.{if◌then◌else◌, is_some}
+use Rattle.species_grammar.specs.Reader.{Answer, Reader, ◌>>=◌, Word, is_of, starts, said, word, nothing, both, mapped, choose, skip, ends, maybe, maybe_word, cons_of, many, until}
 use Rattle.species_grammar.specs.Lawful.{Spelled, Before, SameFirst, IsWord, Took, Failed, Lawful, plain, nothing_spelled, word_spelled, both_before, both_spelled, mapped_before, mapped_spelled, choose_before, choose_spelled, skip_before, skip_spelled, ends_before, ends_spelled, maybe_before, maybe_spelled, maybe_word_before, maybe_word_spelled, Short, many_before, many_spelled, until_before, until_spelled}
 
 -- ---- answers
@@ -68,6 +68,7 @@ module _ {Tok A B : Type 0} (r : Reader Tok A) (q : Reader Tok B) (s f : Before 
                 let first = subst (λ z. SameFirst z (u.front ++ b)) (sym u.is) (same_first u.front vs b e) in
                 ap (both r q) (append_assoc t.front u.front b) ∙ ap go_on (t.steady (u.front ++ b) first) ∙ ap (second_of x) (u.steady b e);
           })
+
       go : Reads (r ts) (λ x us. second_of x (q us)) p rest → Took (both r q) (both_before s s') ts p rest
       go (Reads.reads x us o e) = go_later x us (lr.took ts x us o) (bind_read (q us) (paired x) p rest e)
 
@@ -90,6 +91,7 @@ module _ {Tok A B : Type 0} (r : Reader Tok A) (q : Reader Tok B) (s f : Before 
             more = k.1;
             viable = subst (w k.0) (sym (append_assoc t.front u.front k.1)) k.2;
           }
+
       go : Stops (r ts) (λ x us. second_of x (q us)) back → Failed (both r q) w ts back
       go (Stops.first d) =
           let u = lr.failed ts back d in
@@ -122,9 +124,9 @@ pub both_lawful : {Tok A B : Type 0} (r : Reader Tok A) (q : Reader Tok B) (s f 
     → Lawful (both r q) (both_before s s') (both_before f f') (both_spelled v v')
 both_lawful r q s f s' f' v v' lr lq =
     both_with r q s f s' f' v v' lr lq (both_spelled v v')
-        (λ x a h. ((x, lq.some), lq.some_text, (a, lq.some_text, refl, h, lq.some_spelled)))
-        (λ x a next h y c back more e k. ((x, y), more, (a, c ++ more, refl, lr.weak x a next h, k)))
-        (λ p front rest h. (h.0, h.1, h.2, lr.weak p.0 h.0 (h.1 ++ rest) h.3, lq.weak p.1 h.1 rest h.4))
+    (λ x a h. ((x, lq.some), lq.some_text, (a, lq.some_text, refl, h, lq.some_spelled)))
+    (λ x a next h y c back more e k. ((x, y), more, (a, c ++ more, refl, lr.weak x a next h, k)))
+    (λ p front rest h. (h.0, h.1, h.2, lr.weak p.0 h.0 (h.1 ++ rest) h.3, lq.weak p.1 h.1 rest h.4))
 
 -- ---- the same reader, in other words
 
@@ -315,11 +317,11 @@ module _ {Tok A B : Type 0} (w : Word Tok A) (k : IsWord w) (r : Reader Tok B) (
   pub skip_lawful : Lawful (skip w r) (skip_before w s) (skip_before w f) (skip_spelled w v)
   skip_lawful =
       recast (skip w r) _ _ (skip_before w s) (skip_before w f) _ (skip_spelled w v)
-          (mapped_lawful (λ p. p.1) (both (word w) r) _ _ _ (both_lawful (word w) r _ _ _ _ _ _ (word_lawful w k) l))
-          (λ y front rest (p, e, (a, b, i, j, d)). (p.0, b, i ∙ ap (λ z. z ++ b) j, subst (λ z. s z b rest) e d))
-          (λ y front rest h. ((h.0, y), refl, (w.token h.0 ∷ [], h.1, h.2, refl, h.3)))
-          (λ y front (p, e, (a, b, i, j, d)). (p.0, b, i ∙ ap (λ z. z ++ b) j, subst (λ z. v z b) e d))
-          (λ y front rest h. (h.0, h.1, h.2, l.weak y h.1 rest h.3))
+      (mapped_lawful (λ p. p.1) (both (word w) r) _ _ _ (both_lawful (word w) r _ _ _ _ _ _ (word_lawful w k) l))
+      (λ y front rest (p, e, (a, b, i, j, d)). (p.0, b, i ∙ ap (λ z. z ++ b) j, subst (λ z. s z b rest) e d))
+      (λ y front rest h. ((h.0, y), refl, (w.token h.0 ∷ [], h.1, h.2, refl, h.3)))
+      (λ y front (p, e, (a, b, i, j, d)). (p.0, b, i ∙ ap (λ z. z ++ b) j, subst (λ z. v z b) e d))
+      (λ y front rest h. (h.0, h.1, h.2, l.weak y h.1 rest h.3))
 
 -- ---- ends
 
@@ -327,11 +329,11 @@ module _ {Tok A B : Type 0} (r : Reader Tok B) (w : Word Tok A) (k : IsWord w) (
   pub ends_lawful : Lawful (ends r w) (ends_before s w) (ends_before f w) (ends_spelled v w)
   ends_lawful =
       recast (ends r w) _ _ (ends_before s w) (ends_before f w) _ (ends_spelled v w)
-          (mapped_lawful (λ p. p.0) (both r (word w)) _ _ _ (both_lawful r (word w) _ _ _ _ _ _ l (word_lawful w k)))
-          (λ y front rest (p, e, (a, b, i, d, j)). (p.1, a, i ∙ ap (λ z. a ++ z) j, subst (λ z. s z a (w.token p.1 ∷ rest)) e (subst (λ z. s p.0 a (z ++ rest)) j d)))
-          (λ y front rest h. ((y, h.0), refl, (h.1, w.token h.0 ∷ [], h.2, h.3, refl)))
-          (λ y front (p, e, (a, b, i, d, j)). (p.1, a, i ∙ ap (λ z. a ++ z) j, subst (λ z. v z a) e d))
-          (λ y front rest h. (h.0, h.1, h.2, l.weak y h.1 (w.token h.0 ∷ rest) h.3))
+      (mapped_lawful (λ p. p.0) (both r (word w)) _ _ _ (both_lawful r (word w) _ _ _ _ _ _ l (word_lawful w k)))
+      (λ y front rest (p, e, (a, b, i, d, j)). (p.1, a, i ∙ ap (λ z. a ++ z) j, subst (λ z. s z a (w.token p.1 ∷ rest)) e (subst (λ z. s p.0 a (z ++ rest)) j d)))
+      (λ y front rest h. ((y, h.0), refl, (h.1, w.token h.0 ∷ [], h.2, h.3, refl)))
+      (λ y front (p, e, (a, b, i, d, j)). (p.1, a, i ∙ ap (λ z. a ++ z) j, subst (λ z. v z a) e d))
+      (λ y front rest h. (h.0, h.1, h.2, l.weak y h.1 (w.token h.0 ∷ rest) h.3))
 
 -- ---- maybe
 
@@ -355,11 +357,11 @@ module _ {Tok A B : Type 0} (w : Word Tok A) (k : IsWord w) (r : Reader Tok B) (
   pub maybe_lawful : Lawful (maybe w r) (maybe_before w s) (maybe_before w f) (maybe_spelled w v)
   maybe_lawful =
       recast (maybe w r) _ _ (maybe_before w s) (maybe_before w f) _ (maybe_spelled w v)
-          (choose_lawful (is_of w) (mapped Some (skip w r)) (nothing None) _ _ _ _ _ _ (mapped_lawful Some (skip w r) _ _ _ (skip_lawful w k r s f v l)) (nothing_lawful None))
-          maybe_said
-          maybe_full
-          maybe_viable
-          maybe_weak
+      (choose_lawful (is_of w) (mapped Some (skip w r)) (nothing None) _ _ _ _ _ _ (mapped_lawful Some (skip w r) _ _ _ (skip_lawful w k r s f v l)) (nothing_lawful None))
+      maybe_said
+      maybe_full
+      maybe_viable
+      maybe_weak
 
 module _ {Tok A : Type 0} (w : Word Tok A) (k : IsWord w) where
   word_maybe_said : (o : Option A) (front rest : List Tok) → choose_before (is_of w) (mapped_before Some (plain (word_spelled w))) (plain (nothing_spelled None)) o front rest → maybe_word_before w o front rest
@@ -381,11 +383,11 @@ module _ {Tok A : Type 0} (w : Word Tok A) (k : IsWord w) where
   pub maybe_word_lawful : Lawful (maybe_word w) (maybe_word_before w) (maybe_word_before w) (maybe_word_spelled w)
   maybe_word_lawful =
       recast (maybe_word w) _ _ (maybe_word_before w) (maybe_word_before w) _ (maybe_word_spelled w)
-          (choose_lawful (is_of w) (mapped Some (word w)) (nothing None) _ _ _ _ _ _ (mapped_lawful Some (word w) _ _ _ (word_lawful w k)) (nothing_lawful None))
-          word_maybe_said
-          word_maybe_full
-          word_maybe_viable
-          word_maybe_weak
+      (choose_lawful (is_of w) (mapped Some (word w)) (nothing None) _ _ _ _ _ _ (mapped_lawful Some (word w) _ _ _ (word_lawful w k)) (nothing_lawful None))
+      word_maybe_said
+      word_maybe_full
+      word_maybe_viable
+      word_maybe_weak
 
 -- ---- many
 
@@ -426,13 +428,13 @@ module _ {Tok A : Type 0} (r : Reader Tok A) (c : Tok → Bool) (s f : Before To
   many_lawful zero = many_zero
   many_lawful (suc m) =
       recast (many (suc m) c r) _ _ (many_before c s) (Short (suc m) (many_before c f)) _ (many_spelled v)
-          (choose_lawful c (mapped cons_of (both r (many m c r))) (nothing []) _ _ _ _ _ _
-            (mapped_lawful cons_of (both r (many m c r)) _ _ _ (both_lawful r (many m c r) _ _ _ _ _ _ l (many_lawful m)))
-            (nothing_lawful []))
-          many_said
-          (many_full m)
-          many_viable
-          many_weak
+      (choose_lawful c (mapped cons_of (both r (many m c r))) (nothing []) _ _ _ _ _ _
+      (mapped_lawful cons_of (both r (many m c r)) _ _ _ (both_lawful r (many m c r) _ _ _ _ _ _ l (many_lawful m)))
+      (nothing_lawful []))
+      many_said
+      (many_full m)
+      many_viable
+      many_weak
 
 -- ---- until
 
@@ -475,10 +477,10 @@ module _ {Tok A B : Type 0} (r : Reader Tok B) (w : Word Tok A) (k : IsWord w) (
   until_lawful zero = until_zero
   until_lawful (suc m) =
       recast (until (suc m) w r) _ _ (until_before w s) (Short (suc m) (until_before w f)) _ (until_spelled w v)
-          (choose_lawful (is_of w) (skip w (nothing [])) (mapped cons_of (both r (until m w r))) _ _ _ _ _ _
-            (skip_lawful w k (nothing []) _ _ _ (nothing_lawful []))
-            (mapped_lawful cons_of (both r (until m w r)) _ _ _ (both_lawful r (until m w r) _ _ _ _ _ _ l (until_lawful m))))
-          until_said
-          (until_full m)
-          until_viable
-          until_weak
+      (choose_lawful (is_of w) (skip w (nothing [])) (mapped cons_of (both r (until m w r))) _ _ _ _ _ _
+      (skip_lawful w k (nothing []) _ _ _ (nothing_lawful []))
+      (mapped_lawful cons_of (both r (until m w r)) _ _ _ (both_lawful r (until m w r) _ _ _ _ _ _ l (until_lawful m))))
+      until_said
+      (until_full m)
+      until_viable
+      until_weak

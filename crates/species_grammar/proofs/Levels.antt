@@ -1,6 +1,6 @@
 -- One level of binary operators, from left to right: a list of operators and operands, joined.
-use Rattle.std.proofs.Common.{◌≡◌, ◌∙◌, ap, sym, refl, subst, ℕ, zero, suc, ◌+◌, ◌-◌, ◌<◌, ◌≤◌, List, [], ◌∷◌, ◌++◌, length, Bool, true, false, arith, length-append, append_assoc, append-nil}
-use Rattle.species_grammar.specs.Reader.{Reader, starts, both, mapped, many, joined, level}
+use Rattle.std.proofs.Common.{◌≡◌, ◌∙◌, ap, sym, refl, subst, ℕ, ◌<◌, ◌≤◌, List, [], ◌∷◌, ◌++◌, length, Bool, true, false, arith, length-append, append_assoc, append-nil}
+use Rattle.species_grammar.specs.Reader.{Reader, starts, both, many, joined, level}
 use Rattle.species_grammar.specs.Lawful.{Spelled, Before, Lawful, plain, both_before, both_spelled, mapped_before, mapped_spelled, Short, many_before, many_spelled, LeftSpelled}
 use Rattle.species_grammar.proofs.Laws.{recast_plain, both_lawful, mapped_lawful, many_lawful}
 
@@ -18,7 +18,7 @@ module _ {Tok A O : Type 0} (g : A → O → A → A) (n : ℕ) (c : Tok → Boo
   join_left x ts d [] us h = subst (LeftSpelled g v ov x) (sym (ap (λ z. ts ++ z) h ∙ append-nil ts)) d
   join_left x ts d (p ∷ ps) us (a, b, i, (os, ys, j, od, yd), m) =
       subst (LeftSpelled g v ov (joined g (g x p.0 p.1) ps)) (append_assoc ts (os ++ ys) b ∙ ap (λ z. ts ++ z) (ap (λ z. z ++ b) (sym j) ∙ sym i))
-        (join_left (g x p.0 p.1) (ts ++ (os ++ ys)) (LeftSpelled.more x p.1 p.0 ts os ys d od yd) ps b m)
+      (join_left (g x p.0 p.1) (ts ++ (os ++ ys)) (LeftSpelled.more x p.1 p.0 ts os ys d od yd) ps b m)
 
   level_viable : (x : A) (front : List Tok) → mapped_spelled (λ p. joined g p.0 p.1) (both_spelled v (many_spelled (both_spelled ov v))) x front → LeftSpelled g v ov x front
   level_viable x front (p, e, (a, b, i, d, m)) = subst (λ z. LeftSpelled g v ov z front) e (subst (LeftSpelled g v ov (joined g p.0 p.1)) (sym i) (join_left p.0 a (LeftSpelled.one p.0 a d) p.1 b m))
@@ -57,8 +57,8 @@ module _ {Tok A O : Type 0} (g : A → O → A → A) (n : ℕ) (c : Tok → Boo
   pub level_lawful : Lawful (level g n c o r) (plain (LeftSpelled g v ov)) LevelBefore (LeftSpelled g v ov)
   level_lawful =
       recast_plain (level g n c o r) _ _ LevelBefore _ (LeftSpelled g v ov)
-          (mapped_lawful (λ p. joined g p.0 p.1) (both r (many n c (both o r))) _ _ _
-            (both_lawful r (many n c (both o r)) _ _ _ _ _ _ lr
-              (many_lawful (both o r) c _ _ _ (both_lawful o r _ _ _ _ _ _ lo lr) (λ p a rest h. ap (starts c) (ap (λ z. z ++ rest) h.2 ∙ append_assoc h.0 h.1 rest) ∙ (begins p.0 h.0 (h.1 ++ rest) h.3).0) n)))
-          level_full
-          level_viable
+      (mapped_lawful (λ p. joined g p.0 p.1) (both r (many n c (both o r))) _ _ _
+      (both_lawful r (many n c (both o r)) _ _ _ _ _ _ lr
+      (many_lawful (both o r) c _ _ _ (both_lawful o r _ _ _ _ _ _ lo lr) (λ p a rest h. ap (starts c) (ap (λ z. z ++ rest) h.2 ∙ append_assoc h.0 h.1 rest) ∙ (begins p.0 h.0 (h.1 ++ rest) h.3).0) n)))
+      level_full
+      level_viable

@@ -1,5 +1,5 @@
 -- A lawful reader decides its grammar on whole lists.
-use Rattle.std.proofs.Common.{◌≡◌, ◌∙◌, ap, sym, refl, subst, ℕ, zero, suc, ◌+◌, ◌<◌, ◌≤◌, List, [], ◌∷◌, ◌++◌, length, arith, append_assoc, append-nil, inl, inr}
+use Rattle.std.proofs.Common.{◌≡◌, ◌∙◌, ap, sym, refl, subst, ℕ, suc, ◌+◌, ◌<◌, List, [], ◌∷◌, ◌++◌, length, arith, append_assoc, append-nil, inl, inr}
 use Rattle.species_grammar.specs.Reader.{Answer, Reader, ◌>>=◌}
 use Rattle.species_grammar.specs.Lawful.{Spelled, Before, SameFirst, Lawful, Less, Under}
 use Rattle.species_grammar.specs.Whole.{ended, whole, Viable, StopsBefore, Decides}
@@ -41,8 +41,10 @@ module _ {Tok A : Type 0} (at : ℕ → Reader Tok A) (s : Before Tok A) (f : �
     where
       all : List Tok
       all = front ++ (u ∷ more)
+
       is : (front ++ u ∷ []) ++ more ≡ all
       is = append_assoc front (u ∷ []) more
+
       go : Less (at n all) (at (suc (length all) + n) all) → ⊥
       go (inl e) = deep (u ∷ more) refl e
       go (inr e) =
@@ -65,12 +67,13 @@ module _ {Tok A : Type 0} (at : ℕ → Reader Tok A) (s : Before Tok A) (f : �
             let j : u ≡ w = cc in
             let back_to = λ (b : List Tok) (m : SameFirst (w ∷ us) b). subst (λ z. SameFirst (z ∷ us) b) (sym j) m in
             dead n t.front us w
-              (λ b m z r. nothing_left b z (back_to b m) (t.steady b (back_to b m)) r)
-              (λ b m r. not_shallow x b (sym (t.steady b (back_to b m)) ∙ r));
+            (λ b m z r. nothing_left b z (back_to b m) (t.steady b (back_to b m)) r)
+            (λ b m r. not_shallow x b (sym (t.steady b (back_to b m)) ∙ r));
       })
     where
       not_shallow : (x : A) (b : List Tok) → Answer.read x b ≡ Answer.shallow → ⊥
       not_shallow x b h = cc
+
       nothing_left : {o : Answer Tok A} (b : List Tok) (z : A) → SameFirst (u ∷ us) b → o ≡ Answer.read x b → o ≡ Answer.read z [] → ⊥
       nothing_left [] z m p q = m
       nothing_left (w ∷ b) z m p q = not_empty w b (same_rest (sym p ∙ q))
@@ -84,12 +87,13 @@ module _ {Tok A : Type 0} (at : ℕ → Reader Tok A) (s : Before Tok A) (f : �
         viable = (t.more, t.value, t.viable);
         dead = λ w ws i.
             dead n t.front ws w
-              (λ b m z r. no_value b z (sym (t.steady b (subst (λ z. SameFirst z b) (sym i) m)) ∙ r))
-              (λ b m r. not_shallow b (sym (t.steady b (subst (λ z. SameFirst z b) (sym i) m)) ∙ r));
+            (λ b m z r. no_value b z (sym (t.steady b (subst (λ z. SameFirst z b) (sym i) m)) ∙ r))
+            (λ b m r. not_shallow b (sym (t.steady b (subst (λ z. SameFirst z b) (sym i) m)) ∙ r));
       }
     where
       no_value : (b : List Tok) (z : A) → Answer.stuck b ≡ Answer.read z [] → ⊥
       no_value b z h = cc
+
       not_shallow : (b : List Tok) → Path (Answer Tok A) (Answer.stuck b) Answer.shallow → ⊥
       not_shallow b h = cc
 

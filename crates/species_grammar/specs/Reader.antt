@@ -1,5 +1,5 @@
 -- Readers of lists of tokens, and how they are put together.
-use Rattle.std.specs.Prelude.{ℕ, zero, suc, List, [], ◌∷◌, Option, Some, None, Bool, true, false, is_some, if◌then◌else◌}
+use Rattle.std.specs.Prelude.{ℕ, zero, suc, List, [], ◌∷◌, Option, Some, None, Bool, false, is_some, if◌then◌else◌}
 
 -- What a reader answers: a value and the tokens after those that it is read from; or the tokens at which it
 -- stopped, since no value goes on with the first of them; or that it was given too little depth to tell.

@@ -1,5 +1,5 @@
 -- Reading a whole list of tokens.
-use Rattle.std.specs.Prelude.{◌≡◌, ℕ, suc, ◌<◌, List, [], ◌∷◌, ◌++◌, length}
+use Rattle.std.specs.Prelude.{◌≡◌, ℕ, ◌<◌, List, [], ◌∷◌, ◌++◌, length}
 use Rattle.species_grammar.specs.Reader.{Answer, Reader, ◌>>=◌}
 use Rattle.species_grammar.specs.Lawful.{Spelled}
 

@@ -1,5 +1,5 @@
 -- Declarations (C17 6.7): which lists of tokens derive which global or local.
-use Rattle.std.specs.Prelude.{ℕ, List, [], ◌∷◌, ◌++◌, Option, Some, None}
+use Rattle.std.specs.Prelude.{ℕ, List, [], ◌∷◌, ◌++◌, Some, None}
 use Rattle.species_ast.specs.Token.{Token}
 use Rattle.species_ast.specs.Spelling.{Spelling}
 use Rattle.species_ast.specs.Grammar.Words.{punctuator, name}

@@ -96,7 +96,7 @@ pub data ForHeader : Header → List Token → Type 0 where
   header : (p q r o u w : ℕ) (b : Bool) (i j : Spelling) (c : Test) (x y : RawExpr) (s : RawStep) (bs xs ys ss : List Token)
       → Optional "int" b bs → Expression conditional_level x xs → Expression conditional_level y ys → Step s ss
       → ForHeader (record { typed = b; iter = i; start = x; tested = j; test = c; limit = y; step = s })
-          (punctuator p "(" ∷ (bs ++ (name i ∷ punctuator q "=" ∷ (xs ++ (punctuator r ";" ∷ name j ∷ punctuator o (test_sign c) ∷ (ys ++ (punctuator u ";" ∷ (ss ++ punctuator w ")" ∷ []))))))))
+      (punctuator p "(" ∷ (bs ++ (name i ∷ punctuator q "=" ∷ (xs ++ (punctuator r ";" ∷ name j ∷ punctuator o (test_sign c) ∷ (ys ++ (punctuator u ";" ∷ (ss ++ punctuator w ")" ∷ []))))))))
 
 -- ---- pragmas before a loop
 

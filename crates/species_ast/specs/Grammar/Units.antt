@@ -23,7 +23,7 @@ pub data TranslationUnit : RawUnit → List Token → Type 0 where
   -- `static void f(void) { .. }`, with or without `static` and the second `void`, and nothing after it
   function : (b c : Bool) (p q r o : ℕ) (f : Spelling) (body : List RawStmt) (bs cs ts : List Token) → Optional "static" b bs → Optional "void" c cs → BlockItems body ts
       → TranslationUnit (record { items = []; function = f; body = body })
-          (bs ++ (keyword p "void" ∷ name f ∷ punctuator q "(" ∷ (cs ++ (punctuator r ")" ∷ punctuator o "{" ∷ ts))))
+      (bs ++ (keyword p "void" ∷ name f ∷ punctuator q "(" ∷ (cs ++ (punctuator r ")" ∷ punctuator o "{" ∷ ts))))
 
 -- The whole list of tokens derives the unit.
 abbrev pub Derives : List Token → RawUnit → Type 0
