@@ -3,3 +3,4 @@ pub mod Induction
 pub mod StripLaws
 pub mod Cutting
 pub mod Examples
+pub mod Grammar
