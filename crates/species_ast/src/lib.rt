@@ -6,10 +6,12 @@
 
 mod memory;
 mod text;
+mod trap;
 mod tree;
 
 pub use memory::OutOfMemory;
 pub use text::{Dims, Includes, LineText, Name};
+pub use trap::{Trap, Undefined};
 pub use tree::{
     Array, Binary, Expr, Kind, LocalInfo, Loop, Mark, Schedule, Stmt, Test, Unary, Unit, Value,
 };
