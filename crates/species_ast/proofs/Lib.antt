@@ -4,3 +4,6 @@ pub mod StripLaws
 pub mod Cutting
 pub mod Examples
 pub mod Grammar
+pub mod AccessLaws
+pub mod RunLaws
+mod Examples

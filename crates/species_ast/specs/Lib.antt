@@ -6,3 +6,7 @@ pub mod Strip
 pub mod Spelling
 pub mod Token
 pub mod Text
+pub mod Operators
+pub mod Accesses
+pub mod Evaluation
+pub mod Run

@@ -11,6 +11,7 @@ mod raw;
 mod text;
 mod text_law;
 mod token;
+mod trap;
 mod tree;
 
 pub use copies::{copy, copy_expr, copy_exprs, copy_loop, copy_stmt, copy_stmts};
@@ -23,6 +24,7 @@ pub use raw::{
 pub use text::{Dims, Includes, LineText, Name};
 pub use text_law::law_text;
 pub use token::{LexRefusal, TokenKind};
+pub use trap::{Trap, Undefined};
 pub use tree::{
     Array, Binary, Expr, Kind, LocalInfo, Loop, Mark, Schedule, Stmt, Test, Unary, Unit, Value,
 };
