@@ -1,9 +1,9 @@
-pub mod Folds
-pub mod Induction
-pub mod StripLaws
-pub mod Cutting
-pub mod Examples
-pub mod Grammar
 pub mod AccessLaws
-pub mod RunLaws
+pub mod Cutting
 mod Examples
+pub mod Folds
+pub mod Grammar
+pub mod Induction
+mod OperatorExamples
+pub mod RunLaws
+pub mod StripLaws

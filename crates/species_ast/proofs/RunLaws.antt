@@ -75,7 +75,7 @@ step-SetLocal w place x value =
 
 pub step-If : (w : Context) (place : ℕ) (test : Expr) (body otherwise : List Stmt)
     → step w (s.If place test body otherwise)
-      ≡ plain (λ at. branching (sense w test) (does_scope w body at 0) (does_scope w otherwise at (length (map (step w) body))) (spot place at))
+    ≡ plain (λ at. branching (sense w test) (does_scope w body at 0) (does_scope w otherwise at (length (map (step w) body))) (spot place at))
 step-If w place test body otherwise =
     ap (step w) (sym (s.rolls-If place test body otherwise)) ∙ fold-roll-Stmt Step Doing (step_at w) (loop_at w) (Stmt-F.If place test body otherwise)
 
@@ -107,24 +107,24 @@ does_list-append w (x ∷ xs) ys at k f =
     let first = (step w x).does (at ++ k ∷ []) f in
     let same : suc k + length xs ≡ k + suc (length xs) = omega arith in
     let rest : (g : Frame) → does_list w (xs ++ ys) at (suc k) g ≡ then_do (does_list w xs at (suc k) g) (does_list w ys at (k + suc (length xs))) =
-        λ g. does_list-append w xs ys at (suc k) g ∙ ap (λ n. then_do (does_list w xs at (suc k) g) (does_list w ys at n)) same
+    λ g. does_list-append w xs ys at (suc k) g ∙ ap (λ n. then_do (does_list w xs at (suc k) g) (does_list w ys at n)) same
     in
     ap (then_do first) (λ i g. rest g i) ∙ sym (then_do-assoc first (does_list w xs at (suc k)) (does_list w ys at (k + suc (length xs))))
 
 pub run_list-cons : (w : Context) (x : Stmt) (xs : List Stmt) (at : List ℕ) (k : ℕ) (f : Frame) (m : Cells)
     → run (does_list w (x ∷ xs) at k f) m
-      ≡ go_on (run ((step w x).does (at ++ k ∷ []) f) m) (λ g n. run (does_list w xs at (suc k) g) n)
+    ≡ go_on (run ((step w x).does (at ++ k ∷ []) f) m) (λ g n. run (does_list w xs at (suc k) g) n)
 run_list-cons w x xs at k f m = run-then_do ((step w x).does (at ++ k ∷ []) f) (does_list w xs at (suc k)) m
 
 pub run_list-append : (w : Context) (xs ys : List Stmt) (at : List ℕ) (k : ℕ) (f : Frame) (m : Cells)
     → run (does_list w (xs ++ ys) at k f) m
-      ≡ go_on (run (does_list w xs at k f) m) (λ g n. run (does_list w ys at (k + length xs) g) n)
+    ≡ go_on (run (does_list w xs at k f) m) (λ g n. run (does_list w ys at (k + length xs) g) n)
 run_list-append w xs ys at k f m =
     ap (λ t. run t m) (does_list-append w xs ys at k f) ∙ run-then_do (does_list w xs at k f) (does_list w ys at (k + length xs)) m
 
 pub accesses_list-append : (w : Context) (xs ys : List Stmt) (at : List ℕ) (k : ℕ) (f : Frame) (m : Cells)
     → accesses (does_list w (xs ++ ys) at k f) m
-      ≡ accesses (does_list w xs at k f) m ++ accesses_on (run (does_list w xs at k f) m) (λ g n. accesses (does_list w ys at (k + length xs) g) n)
+    ≡ accesses (does_list w xs at k f) m ++ accesses_on (run (does_list w xs at k f) m) (λ g n. accesses (does_list w ys at (k + length xs) g) n)
 accesses_list-append w xs ys at k f m =
     ap (λ t. accesses t m) (does_list-append w xs ys at k f) ∙ accesses-then_do (does_list w xs at k f) (does_list w ys at (k + length xs)) m
 
