@@ -1,1 +1,2 @@
 pub mod OneLoopText
+pub mod Table
