@@ -12,6 +12,12 @@ rising_above k [] i d rising h = absurd (omega (arith, h))
 rising_above k (t ∷ ts) zero d rising h = rising.0
 rising_above k (t ∷ ts) (suc i) d rising h = omega (arith, rising.0, rising_above (t.level + 1) ts i d rising.2 (omega arith))
 
+-- no term has the coefficient 0
+pub term_nonzero : (k : ℕ) (ts : List Term) (i : ℕ) (d : Term) → IsRisingFrom k ts → i < length ts → (slice_index_or ts i d).coefficient ≢ pos 0
+term_nonzero k [] i d rising h = absurd (omega (arith, h))
+term_nonzero k (t ∷ ts) zero d rising h = rising.1
+term_nonzero k (t ∷ ts) (suc i) d rising h = term_nonzero (t.level + 1) ts i d rising.2 (omega arith)
+
 -- levels that rise and are below n are at most n
 pub few_terms : (n k : ℕ) (ts : List Term) → IsRisingFrom k ts → All (λ t. t.level < n) ts → k ≤ n → k + length ts ≤ n
 few_terms n k [] rising below h = omega arith
