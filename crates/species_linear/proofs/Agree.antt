@@ -1,9 +1,9 @@
 -- A form depends on the levels that it names, and on no other.
-use Rattle.std.proofs.Common.{◌≡◌, ◌≢◌, ℕ, suc, ◌<◌, ℤ, pos, ◌+ℤ◌, ◌*ℤ◌, arith, refl, ap, List, [], ◌∷◌, length, slice_index_or, All, ◌⊎◌, inl, inr}
+use Rattle.std.proofs.Common.{◌≡◌, ℕ, suc, ◌<◌, ℤ, pos, ◌*ℤ◌, arith, refl, ap, List, [], ◌∷◌, slice_index_or, All, ◌⊎◌, inl, inr}
 use Rattle.std.proofs.lemmas.Int.{ints}
 use Rattle.species_linear.specs.declared.forms.Term.{Term}
 use Rattle.species_linear.specs.declared.forms.Form.{Form}
-use Rattle.species_linear.specs.Rising.{IsRising, IsRisingFrom}
+use Rattle.species_linear.specs.Rising.{IsRising}
 use Rattle.species_linear.specs.Point.{Point}
 use Rattle.species_linear.specs.Value.{sum_at, form_at, coefficient_at, NamesOnly}
 use Rattle.species_linear.proofs.Order.{coefficient_of_term, term_nonzero}
@@ -30,8 +30,9 @@ form_at-agree_below f n p q named same = form_at-agree f p q (agree_below f.term
 -- ---- the same, where the points agree at each level with a coefficient
 pub agree_at_coefficients : (ts : List Term) (p q : Point) → IsRising ts → ((k : ℕ) → (coefficient_at ts k ≡ pos 0) ⊎ (p k ≡ q k)) → AgreeOn ts p q
 agree_at_coefficients ts p q rising same i d h = elim (same (slice_index_or ts i d).level) [
-      inl none ↦ absurd (term_nonzero 0 ts i d rising h (rw (coefficient_of_term 0 ts i d rising h) at none))
-    | inr e ↦ e ]
+  | inl none ↦ absurd (term_nonzero 0 ts i d rising h (rw (coefficient_of_term 0 ts i d rising h) at none))
+  | inr e ↦ e
+]
 
 pub form_at-agree_at_coefficients : (f : Form) (p q : Point) → IsRising f.terms →
     ((k : ℕ) → (coefficient_at f.terms k ≡ pos 0) ⊎ (p k ≡ q k)) → form_at f p ≡ form_at f q

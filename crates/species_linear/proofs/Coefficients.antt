@@ -1,6 +1,6 @@
 -- The coefficient of a level is 0, or that of a term.
-use Rattle.std.proofs.Common.{◌≡◌, ℕ, zero, suc, ◌+◌, ◌<◌, ◌≤◌, ℤ, pos, arith, refl, sym, subst, List, [], ◌∷◌, length, slice_index_or, Bool, true, false, nat_eq, if◌then◌else◌, All, ◌⊎◌, inl, inr}
-use Rattle.std.proofs.lemmas.Bool.{eq-eqb, eqb-true}
+use Rattle.std.proofs.Common.{◌≡◌, ℕ, suc, ◌+◌, ◌<◌, ◌≤◌, ℤ, pos, arith, refl, List, [], ◌∷◌, length, slice_index_or, Bool, true, false, nat_eq, if◌then◌else◌, All, ◌⊎◌, inl, inr}
+use Rattle.std.proofs.lemmas.Bool.{eqb-true}
 use Rattle.std.proofs.lemmas.Bool.Decides.{nat_tests}
 use Rattle.species_linear.specs.declared.forms.Term.{Term}
 use Rattle.species_linear.specs.Rising.{IsRisingFrom}
@@ -38,10 +38,12 @@ pub coefficient_cases : (ts : List Term) (k : ℕ) (d : Term) → (coefficient_a
     ((i : ℕ) × (i < length ts) × ((slice_index_or ts i d).level ≡ k) × (coefficient_at ts k ≡ (slice_index_or ts i d).coefficient))
 coefficient_cases [] k d = inl refl
 coefficient_cases (t ∷ ts) k d = elim (tested (nat_eq t.level k)) [
-      inl same ↦ inr (0, omega arith, eqb-true t.level k same, rw same refl)
-    | inr other ↦ elim (coefficient_cases ts k d) [
-          inl none ↦ inl (rw other none)
-        | inr found ↦ inr (suc found.0, omega (arith, found.1), found.2, rw other found.3) ] ]
+  | inl same ↦ inr (0, omega arith, eqb-true t.level k same, rw same refl)
+  | inr other ↦ elim (coefficient_cases ts k d) [
+    | inl none ↦ inl (rw other none)
+    | inr found ↦ inr (suc found.0, omega (arith, found.1), found.2, rw other found.3)
+  ]
+]
   where
     tested : (b : Bool) → (b ≡ true) ⊎ (b ≡ false)
     tested true = inl refl

@@ -1,6 +1,6 @@
 -- A form is least, or greatest, at a corner of the box.
-use Rattle.std.proofs.Common.{◌≡◌, ℕ, suc, ◌≤◌, ◌<◌, ℤ, pos, ◌+ℤ◌, ◌*ℤ◌, ◌≤ℤ◌, ◌<ℤ◌, arith, refl, Bool, true, false, List, [], ◌∷◌, length, slice_index_or, if◌then◌else◌, All}
-use Rattle.std.specs.Int.RustNames.{int_lt, unsigned_abs}
+use Rattle.std.proofs.Common.{◌≡◌, suc, ℤ, pos, ◌*ℤ◌, ◌≤ℤ◌, arith, refl, Bool, true, false, List, [], ◌∷◌, length, slice_index_or, All}
+use Rattle.std.specs.Int.RustNames.{int_lt}
 use Rattle.std.proofs.lemmas.Int.{ints, by_lt_z}
 use Rattle.species_integers.proofs.Products.{mul_up, mul_down}
 use Rattle.species_linear.specs.declared.forms.Term.{Term}
@@ -57,17 +57,27 @@ sums_up (t ∷ ts) p q each = omega (arith, ints, each 0 t (omega arith), sums_u
 pub least_at_corner : (f : Form) (path : List LoopRange) → IsRising f.terms → NamesOnly f (length path) → IsFull path →
     IsLeast f path (form_at f (corner_of true f path))
 least_at_corner f path rising named full = (
-    (λ p inside. omega (arith, ints, sums_up f.terms (corner_of true f path) p (λ i d h.
+  (λ p inside. omega (
+    arith,
+    ints,
+    sums_up f.terms (corner_of true f path) p (λ i d h.
         rw (coefficient_of_term 0 f.terms i d rising h)
-            (lower_least (slice_index_or f.terms i d).coefficient (range_at path (slice_index_or f.terms i d).level) (p (slice_index_or f.terms i d).level)
-                (inside (slice_index_or f.terms i d).level (named i d h)))))),
-    (corner_of true f path, corner_in true f path full, refl))
+        (lower_least (slice_index_or f.terms i d).coefficient (range_at path (slice_index_or f.terms i d).level) (p (slice_index_or f.terms i d).level)
+        (inside (slice_index_or f.terms i d).level (named i d h)))),
+  )),
+  (corner_of true f path, corner_in true f path full, refl),
+)
 
 pub greatest_at_corner : (f : Form) (path : List LoopRange) → IsRising f.terms → NamesOnly f (length path) → IsFull path →
     IsGreatest f path (form_at f (corner_of false f path))
 greatest_at_corner f path rising named full = (
-    (λ p inside. omega (arith, ints, sums_up f.terms p (corner_of false f path) (λ i d h.
+  (λ p inside. omega (
+    arith,
+    ints,
+    sums_up f.terms p (corner_of false f path) (λ i d h.
         rw (coefficient_of_term 0 f.terms i d rising h)
-            (upper_greatest (slice_index_or f.terms i d).coefficient (range_at path (slice_index_or f.terms i d).level) (p (slice_index_or f.terms i d).level)
-                (inside (slice_index_or f.terms i d).level (named i d h)))))),
-    (corner_of false f path, corner_in false f path full, refl))
+        (upper_greatest (slice_index_or f.terms i d).coefficient (range_at path (slice_index_or f.terms i d).level) (p (slice_index_or f.terms i d).level)
+        (inside (slice_index_or f.terms i d).level (named i d h)))),
+  )),
+  (corner_of false f path, corner_in false f path full, refl),
+)

@@ -1,5 +1,5 @@
 -- Facts of extremes that hold whatever is allowed, and whatever the value.
-use Rattle.std.proofs.Common.{◌≡◌, ℤ, ◌+ℤ◌, ◌≤ℤ◌, arith, refl, sym, subst}
+use Rattle.std.proofs.Common.{◌≡◌, ℤ, ◌+ℤ◌, ◌≤ℤ◌, arith}
 use Rattle.std.proofs.lemmas.Int.{ints}
 use Rattle.std.proofs.Math.IntN.{neg_ℤ}
 use Rattle.species_linear.specs.Box.{IsLeastOver, IsGreatestOver}
@@ -32,8 +32,12 @@ least_of_negation P value z p = ((λ x allowed. omega (arith, ints, p.0 x allowe
 -- what has the same value everywhere has the same extremes
 pub least_same : {X : Type 0} (P : X → Type 0) (value other : X → ℤ) (z : ℤ) → ((x : X) → value x ≡ other x) → IsLeastOver P value z → IsLeastOver P other z
 least_same P value other z same p = (
-    (λ x allowed. omega (arith, ints, p.0 x allowed, same x)), (p.1.0, p.1.1, omega (arith, ints, p.1.2, same p.1.0)))
+  (λ x allowed. omega (arith, ints, p.0 x allowed, same x)),
+  (p.1.0, p.1.1, omega (arith, ints, p.1.2, same p.1.0)),
+)
 
 pub greatest_same : {X : Type 0} (P : X → Type 0) (value other : X → ℤ) (z : ℤ) → ((x : X) → value x ≡ other x) → IsGreatestOver P value z → IsGreatestOver P other z
 greatest_same P value other z same p = (
-    (λ x allowed. omega (arith, ints, p.0 x allowed, same x)), (p.1.0, p.1.1, omega (arith, ints, p.1.2, same p.1.0)))
+  (λ x allowed. omega (arith, ints, p.0 x allowed, same x)),
+  (p.1.0, p.1.1, omega (arith, ints, p.1.2, same p.1.0)),
+)

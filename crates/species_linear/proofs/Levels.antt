@@ -1,5 +1,5 @@
 -- The sum over terms as a sum over levels.
-use Rattle.std.proofs.Common.{◌≡◌, ℕ, zero, suc, ◌+◌, ◌<◌, ◌≤◌, ℤ, pos, ◌+ℤ◌, ◌-ℤ◌, ◌*ℤ◌, arith, refl, sym, ap, subst, List, [], ◌∷◌, false, nat_eq, if◌then◌else◌, All, ◌⊎◌, inl, inr}
+use Rattle.std.proofs.Common.{◌≡◌, ℕ, zero, suc, ◌+◌, ◌<◌, ◌≤◌, ℤ, pos, ◌+ℤ◌, ◌-ℤ◌, ◌*ℤ◌, arith, refl, sym, ap, subst, List, [], ◌∷◌, false, nat_eq, All, ◌⊎◌, inl, inr}
 use Rattle.std.proofs.lemmas.Int.{ints}
 use Rattle.std.proofs.lemmas.Bool.{eq-eqb}
 use Rattle.std.proofs.lemmas.Bool.Decides.{nat_tests}
@@ -31,9 +31,10 @@ first_past : (t : Term) (ts : List Term) (x : Point) (n : ℕ) → coefficient_a
     by_level (pos 0) (coefficient_at (t ∷ ts)) x n ≡ (t.coefficient *ℤ x t.level) +ℤ by_level (pos 0) (coefficient_at ts) x n
 first_past t ts x zero none h = absurd (omega (arith, h))
 first_past t ts x (suc n) none h = elim (at_or_past t.level n h) [
-      inl s ↦ (let other : nat_eq t.level n ≡ false = grind (arith, nat_tests) in rw other (omega (arith, ints, first_past t ts x n none s)))
-    | inr e ↦ (let gone : coefficient_at ts n ≡ pos 0 = subst (λ (j : ℕ). coefficient_at ts j ≡ pos 0) e none in
-        rw (eq-eqb t.level n e, gone) (omega (arith, ints, first_below t ts x n (omega (arith, e)), mul_zero (x n), ap (λ (j : ℕ). t.coefficient *ℤ x j) e))) ]
+  | inl s ↦ (let other : nat_eq t.level n ≡ false = grind (arith, nat_tests) in rw other (omega (arith, ints, first_past t ts x n none s)))
+  | inr e ↦ (let gone : coefficient_at ts n ≡ pos 0 = subst (λ (j : ℕ). coefficient_at ts j ≡ pos 0) e none in
+      rw (eq-eqb t.level n e, gone) (omega (arith, ints, first_below t ts x n (omega (arith, e)), mul_zero (x n), ap (λ (j : ℕ). t.coefficient *ℤ x j) e)))
+]
 
 no_terms : (x : Point) (n : ℕ) → by_level (pos 0) (coefficient_at []) x n ≡ pos 0
 no_terms x zero = refl
@@ -42,8 +43,12 @@ no_terms x (suc n) = omega (arith, ints, no_terms x n, mul_zero (x n))
 sum_from : (k : ℕ) (ts : List Term) (n : ℕ) (x : Point) → IsRisingFrom k ts → All (λ t. t.level < n) ts → sum_at ts x ≡ by_level (pos 0) (coefficient_at ts) x n
 sum_from k [] n x rising below = sym (no_terms x n)
 sum_from k (t ∷ ts) n x rising below =
-    omega (arith, ints, first_past t ts x n (coefficient_before (t.level + 1) t.level ts rising.2 (omega arith)) (below 0 t (omega arith)),
-        sum_from (t.level + 1) ts n x rising.2 (λ j d l. below (suc j) d (omega arith)))
+    omega (
+      arith,
+      ints,
+      first_past t ts x n (coefficient_before (t.level + 1) t.level ts rising.2 (omega arith)) (below 0 t (omega arith)),
+      sum_from (t.level + 1) ts n x rising.2 (λ j d l. below (suc j) d (omega arith)),
+    )
 
 -- the sum of rising terms by level
 pub sum_by_level : (ts : List Term) (n : ℕ) (x : Point) → IsRising ts → All (λ t. t.level < n) ts → sum_at ts x ≡ by_level (pos 0) (coefficient_at ts) x n
@@ -63,7 +68,7 @@ pub difference_by_level : (f g : Form) (n : ℕ) (x y : Point) → IsRising f.te
     total_of {X = ℤ × ℤ} (f.constant -ℤ g.constant) (λ k z. (coefficient_at f.terms k *ℤ z.0) -ℤ (coefficient_at g.terms k *ℤ z.1)) (λ k. (x k, y k)) n
 difference_by_level f g n x y rising_f rising_g named_f named_g =
     rw (form_by_level f n x rising_f named_f, form_by_level g n y rising_g named_g)
-        (total_difference f.constant g.constant (λ k z. coefficient_at f.terms k *ℤ z) (λ k z. coefficient_at g.terms k *ℤ z) x y n)
+    (total_difference f.constant g.constant (λ k z. coefficient_at f.terms k *ℤ z) (λ k z. coefficient_at g.terms k *ℤ z) x y n)
 
 -- ---- coefficients that add up, or are multiples
 by_level_same : (c : ℤ) (a b : ℕ → ℤ) (x : Point) (n : ℕ) → ((k : ℕ) → a k ≡ b k) → by_level c a x n ≡ by_level c b x n
@@ -83,13 +88,25 @@ pub sum_at-of_sum : (ts us ws : List Term) (n : ℕ) (x : Point) → IsRising ts
     All (λ t. t.level < n) ts → All (λ t. t.level < n) us → All (λ t. t.level < n) ws →
     ((k : ℕ) → coefficient_at ws k ≡ coefficient_at ts k +ℤ coefficient_at us k) → sum_at ws x ≡ sum_at ts x +ℤ sum_at us x
 sum_at-of_sum ts us ws n x rising_ts rising_us rising_ws below_ts below_us below_ws both =
-    omega (arith, ints, sum_by_level ts n x rising_ts below_ts, sum_by_level us n x rising_us below_us, sum_by_level ws n x rising_ws below_ws,
-        by_level_same (pos 0) (coefficient_at ws) (λ k. coefficient_at ts k +ℤ coefficient_at us k) x n both,
-        by_level_sum (coefficient_at ts) (coefficient_at us) x n)
+    omega (
+      arith,
+      ints,
+      sum_by_level ts n x rising_ts below_ts,
+      sum_by_level us n x rising_us below_us,
+      sum_by_level ws n x rising_ws below_ws,
+      by_level_same (pos 0) (coefficient_at ws) (λ k. coefficient_at ts k +ℤ coefficient_at us k) x n both,
+      by_level_sum (coefficient_at ts) (coefficient_at us) x n,
+    )
 
 -- terms with multiples of the coefficients have the multiple of the sum
 pub sum_at-of_multiple : (c : ℤ) (ts ws : List Term) (n : ℕ) (x : Point) → IsRising ts → IsRising ws →
     All (λ t. t.level < n) ts → All (λ t. t.level < n) ws → ((k : ℕ) → coefficient_at ws k ≡ c *ℤ coefficient_at ts k) → sum_at ws x ≡ c *ℤ sum_at ts x
 sum_at-of_multiple c ts ws n x rising_ts rising_ws below_ts below_ws each =
-    omega (arith, ints, ap (λ (z : ℤ). c *ℤ z) (sum_by_level ts n x rising_ts below_ts), sum_by_level ws n x rising_ws below_ws,
-        by_level_same (pos 0) (coefficient_at ws) (λ k. c *ℤ coefficient_at ts k) x n each, by_level_multiple c (coefficient_at ts) x n)
+    omega (
+      arith,
+      ints,
+      ap (λ (z : ℤ). c *ℤ z) (sum_by_level ts n x rising_ts below_ts),
+      sum_by_level ws n x rising_ws below_ws,
+      by_level_same (pos 0) (coefficient_at ws) (λ k. c *ℤ coefficient_at ts k) x n each,
+      by_level_multiple c (coefficient_at ts) x n,
+    )

@@ -1,7 +1,6 @@
 -- The size of a form's value.
-use Rattle.std.proofs.Common.{◌≡◌, ℕ, suc, ◌+◌, ◌*◌, ◌^◌, ◌≤◌, ◌<◌, ℤ, pos, ◌+ℤ◌, ◌*ℤ◌, ◌≤ℤ◌, arith, subst, List, [], ◌∷◌, length, All}
+use Rattle.std.proofs.Common.{ℕ, suc, ◌*◌, ◌^◌, ◌≤◌, ◌<◌, ℤ, ◌*ℤ◌, arith, subst, List, [], ◌∷◌, length, All}
 use Rattle.std.specs.Int.RustNames.{unsigned_abs}
-use Rattle.std.proofs.lemmas.Int.{ints}
 use Rattle.std.proofs.lemmas.Nat.{mul-le}
 use Rattle.species_integers.proofs.Sizes.{abs_sum, abs_product, abs_between}
 use Rattle.species_linear.specs.declared.forms.Term.{Term}
@@ -18,15 +17,19 @@ pub abs_sum_at : (ts : List Term) (p : Point) (a b : ℕ) → All (λ t. unsigne
     unsigned_abs (sum_at ts p) ≤ length ts * (a * b)
 abs_sum_at [] p a b small near = omega arith
 abs_sum_at (t ∷ ts) p a b small near =
-    grind (arith, abs_sum (t.coefficient *ℤ p t.level) (sum_at ts p), abs_product t.coefficient (p t.level) a b (small 0 t (omega arith)) (near 0 t (omega arith)),
-        abs_sum_at ts p a b (λ j d l. small (suc j) d (omega arith)) (λ j d l. near (suc j) d (omega arith)))
+    grind (
+      arith,
+      abs_sum (t.coefficient *ℤ p t.level) (sum_at ts p),
+      abs_product t.coefficient (p t.level) a b (small 0 t (omega arith)) (near 0 t (omega arith)),
+      abs_sum_at ts p a b (λ j d l. small (suc j) d (omega arith)) (λ j d l. near (suc j) d (omega arith)),
+    )
 
 -- a small form of at most 16 levels, at a point with small values
 pub abs_form_at : (f : Form) (p : Point) (n : ℕ) → IsRising f.terms → NamesOnly f n → n ≤ 16 → HasSmallForm f →
     ((k : ℕ) → k < n → unsigned_abs (p k) ≤ 2 ^ 40) → unsigned_abs (form_at f p) ≤ 2 ^ 115
 abs_form_at f p n rising named few small near =
     let all : unsigned_abs (sum_at f.terms p) ≤ length f.terms * (2 ^ 70 * 2 ^ 40) =
-        abs_sum_at f.terms p (2 ^ 70) (2 ^ 40) (λ i d h. omega (arith, small.1 i d h)) (λ i d h. near _ (named i d h)) in
+    abs_sum_at f.terms p (2 ^ 70) (2 ^ 40) (λ i d h. omega (arith, small.1 i d h)) (λ i d h. near _ (named i d h)) in
     let count : length f.terms ≤ 16 = omega (arith, few_terms n 0 f.terms rising named (omega arith)) in
     omega (arith, all, mul-le (length f.terms) (2 ^ 70 * 2 ^ 40) 16 (2 ^ 70 * 2 ^ 40) count (omega arith), abs_sum f.constant (sum_at f.terms p), small.0)
 

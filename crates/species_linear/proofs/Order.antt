@@ -1,5 +1,5 @@
 -- Terms whose levels rise.
-use Rattle.std.proofs.Common.{◌≡◌, ◌≢◌, ℕ, zero, suc, ◌+◌, ◌≤◌, ◌<◌, ℤ, pos, arith, refl, false, List, [], ◌∷◌, ◌++◌, length, slice_index_or, nat_eq, All, ◌⊎◌, inl, inr}
+use Rattle.std.proofs.Common.{◌≡◌, ◌≢◌, ℕ, zero, suc, ◌+◌, ◌≤◌, ◌<◌, pos, arith, refl, false, List, [], ◌∷◌, ◌++◌, length, slice_index_or, nat_eq, All}
 use Rattle.std.proofs.lemmas.Bool.{eq-eqb}
 use Rattle.std.proofs.lemmas.Bool.Decides.{nat_tests}
 use Rattle.species_linear.specs.declared.forms.Term.{Term}

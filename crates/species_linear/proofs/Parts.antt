@@ -1,7 +1,7 @@
 -- Sums of separate parts, one for each level: their extremes are the sums of the extremes.
 --
 -- A level has a value of a type X: an iterator, or the pair of iterators of two references.
-use Rattle.std.proofs.Common.{◌≡◌, ℕ, zero, suc, ◌+◌, ◌<◌, ℤ, ◌+ℤ◌, ◌-ℤ◌, ◌≤ℤ◌, arith, refl, sym, subst, false, nat_eq, if◌then◌else◌, ◌⊎◌, inl, inr}
+use Rattle.std.proofs.Common.{◌≡◌, ℕ, zero, suc, ◌<◌, ℤ, ◌+ℤ◌, ◌-ℤ◌, arith, refl, sym, subst, false, nat_eq, if◌then◌else◌, ◌⊎◌, inl, inr}
 use Rattle.std.proofs.lemmas.Int.{ints}
 use Rattle.std.proofs.lemmas.Bool.{eq-eqb}
 use Rattle.std.proofs.lemmas.Bool.Decides.{nat_tests}
@@ -46,8 +46,9 @@ below_or_at k n h = grind arith
 -- an allowed value more at the level n
 pub put_allowed : {X : Type 0} (R : ℕ → X → Type 0) (n : ℕ) (v : X) (x : ℕ → X) → IsAllowedBelow R n x → R n v → IsAllowedBelow R (suc n) (put n v x)
 put_allowed R n v x allowed h k l = elim (below_or_at k n l) [
-      inl s ↦ rw (put_below n v x k s) (allowed k s)
-    | inr e ↦ subst (λ (j : ℕ). R j (put n v x j)) (sym e) (rw (put_here n v x) h) ]
+  | inl s ↦ rw (put_below n v x k s) (allowed k s)
+  | inr e ↦ subst (λ (j : ℕ). R j (put n v x j)) (sym e) (rw (put_here n v x) h)
+]
 
 pub put_total : {X : Type 0} (c : ℤ) (part : ℕ → X → ℤ) (n : ℕ) (v : X) (x : ℕ → X) → total_of c part (put n v x) (suc n) ≡ total_of c part x n +ℤ part n v
 put_total c part n v x = rw (put_here n v x, total_same c part (put n v x) x n (put_below n v x)) refl
@@ -57,17 +58,25 @@ pub least_next : {X : Type 0} (R : ℕ → X → Type 0) (c : ℤ) (part : ℕ �
     IsLeastOver (IsAllowedBelow R n) (λ x. total_of c part x n) low → IsLeastOver (R n) (part n) l →
     IsLeastOver (IsAllowedBelow R (suc n)) (λ x. total_of c part x (suc n)) (low +ℤ l)
 least_next R c part n low l before here = (
-    (λ x allowed. omega (arith, ints, here.0 (x n) (allowed n (omega arith)), before.0 x (λ k s. allowed k (omega (arith, s))))),
-    (put n here.1.0 before.1.0, put_allowed R n here.1.0 before.1.0 before.1.1 here.1.1,
-     rw (put_total c part n here.1.0 before.1.0) (omega (arith, ints, before.1.2, here.1.2))))
+  (λ x allowed. omega (arith, ints, here.0 (x n) (allowed n (omega arith)), before.0 x (λ k s. allowed k (omega (arith, s))))),
+  (
+    put n here.1.0 before.1.0,
+    put_allowed R n here.1.0 before.1.0 before.1.1 here.1.1,
+    rw (put_total c part n here.1.0 before.1.0) (omega (arith, ints, before.1.2, here.1.2)),
+  ),
+)
 
 pub greatest_next : {X : Type 0} (R : ℕ → X → Type 0) (c : ℤ) (part : ℕ → X → ℤ) (n : ℕ) (high h : ℤ) →
     IsGreatestOver (IsAllowedBelow R n) (λ x. total_of c part x n) high → IsGreatestOver (R n) (part n) h →
     IsGreatestOver (IsAllowedBelow R (suc n)) (λ x. total_of c part x (suc n)) (high +ℤ h)
 greatest_next R c part n high h before here = (
-    (λ x allowed. omega (arith, ints, here.0 (x n) (allowed n (omega arith)), before.0 x (λ k s. allowed k (omega (arith, s))))),
-    (put n here.1.0 before.1.0, put_allowed R n here.1.0 before.1.0 before.1.1 here.1.1,
-     rw (put_total c part n here.1.0 before.1.0) (omega (arith, ints, before.1.2, here.1.2))))
+  (λ x allowed. omega (arith, ints, here.0 (x n) (allowed n (omega arith)), before.0 x (λ k s. allowed k (omega (arith, s))))),
+  (
+    put n here.1.0 before.1.0,
+    put_allowed R n here.1.0 before.1.0 before.1.1 here.1.1,
+    rw (put_total c part n here.1.0 before.1.0) (omega (arith, ints, before.1.2, here.1.2)),
+  ),
+)
 
 -- ---- all levels below n: `lows` and `highs` have the extremes by level. The values from n on are those of `x`.
 pub least_total : {X : Type 0} (R : ℕ → X → Type 0) (c : ℤ) (part : ℕ → X → ℤ) (lows : ℕ → ℤ) (x : ℕ → X) (n : ℕ) →
@@ -88,11 +97,13 @@ greatest_total R c part highs x (suc n) each =
 pub least_sum : {X Y : Type 0} (P : X → Type 0) (Q : Y → Type 0) (part : X → ℤ) (other : Y → ℤ) (y z : ℤ) →
     IsLeastOver P part y → IsLeastOver Q other z → IsLeastOver {X = X × Y} (λ w. P w.0 × Q w.1) (λ w. part w.0 +ℤ other w.1) (y +ℤ z)
 least_sum P Q part other y z p q = (
-    (λ w allowed. omega (arith, ints, p.0 w.0 allowed.0, q.0 w.1 allowed.1)),
-    ((p.1.0, q.1.0), (p.1.1, q.1.1), omega (arith, ints, p.1.2, q.1.2)))
+  (λ w allowed. omega (arith, ints, p.0 w.0 allowed.0, q.0 w.1 allowed.1)),
+  ((p.1.0, q.1.0), (p.1.1, q.1.1), omega (arith, ints, p.1.2, q.1.2)),
+)
 
 pub greatest_sum : {X Y : Type 0} (P : X → Type 0) (Q : Y → Type 0) (part : X → ℤ) (other : Y → ℤ) (y z : ℤ) →
     IsGreatestOver P part y → IsGreatestOver Q other z → IsGreatestOver {X = X × Y} (λ w. P w.0 × Q w.1) (λ w. part w.0 +ℤ other w.1) (y +ℤ z)
 greatest_sum P Q part other y z p q = (
-    (λ w allowed. omega (arith, ints, p.0 w.0 allowed.0, q.0 w.1 allowed.1)),
-    ((p.1.0, q.1.0), (p.1.1, q.1.1), omega (arith, ints, p.1.2, q.1.2)))
+  (λ w allowed. omega (arith, ints, p.0 w.0 allowed.0, q.0 w.1 allowed.1)),
+  ((p.1.0, q.1.0), (p.1.1, q.1.1), omega (arith, ints, p.1.2, q.1.2)),
+)

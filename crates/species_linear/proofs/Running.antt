@@ -21,10 +21,10 @@ pub running_next : (ts : List Term) (p : Point) (whole : ℤ) (i : ℕ) (d : Ter
     IsRunning ts p whole i total → next ≡ total +ℤ (slice_index_or ts i d).coefficient *ℤ p (slice_index_or ts i d).level →
     IsRunning ts p whole (i + 1) next
 running_next ts p whole i d total next h small_coefficient small_at before step = record {
-    rest = omega (arith, ints, before.rest, step, at_drop_more (λ us. sum_at us p) ts i d h);
-    small = rw step (abs_step total (slice_index_or ts i d).coefficient (p (slice_index_or ts i d).level) i (2 ^ 70) (2 ^ 40) (2 ^ 110)
-        before.small (omega (arith, small_coefficient)) small_at (omega arith))
-  }
+  rest = omega (arith, ints, before.rest, step, at_drop_more (λ us. sum_at us p) ts i d h);
+  small = rw step (abs_step total (slice_index_or ts i d).coefficient (p (slice_index_or ts i d).level) i (2 ^ 70) (2 ^ 40) (2 ^ 110)
+      before.small (omega (arith, small_coefficient)) small_at (omega arith));
+}
 
 -- at most 16 terms: the total stays within the bound of `add_term`
 pub running_small : (ts : List Term) (p : Point) (whole : ℤ) (i n : ℕ) (total : ℤ) → IsRising ts → All (λ t. t.level < n) ts → n ≤ 16 → i < length ts →

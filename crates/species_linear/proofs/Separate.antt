@@ -1,5 +1,5 @@
 -- Two forms that name no level in common: the extremes of their sum are the sums of their extremes.
-use Rattle.std.proofs.Common.{◌≡◌, ℕ, zero, suc, ◌<◌, ℤ, pos, negsuc, ◌+ℤ◌, ◌≤ℤ◌, arith, refl, Bool, true, false, List, length, if◌then◌else◌, ◌⊎◌, inl, inr}
+use Rattle.std.proofs.Common.{◌≡◌, ℕ, zero, suc, ℤ, pos, negsuc, ◌+ℤ◌, arith, refl, Bool, true, false, List, if◌then◌else◌, ◌⊎◌, inl, inr}
 use Rattle.std.proofs.lemmas.Int.{ints}
 use Rattle.species_linear.specs.declared.forms.Term.{Term}
 use Rattle.species_linear.specs.declared.forms.Form.{Form}
@@ -38,19 +38,28 @@ mixed_first f p q rising = form_at-agree_at_coefficients f (mixed f.terms p q) p
 
 pub mixed_second : (f g : Form) (p q : Point) → IsRising g.terms → AreSeparate f.terms g.terms → form_at g (mixed f.terms p q) ≡ form_at g q
 mixed_second f g p q rising apart = form_at-agree_at_coefficients g (mixed f.terms p q) q rising (λ k. elim (apart k) [
-      inl none ↦ inr (rw none refl)
-    | inr none ↦ inl none ])
+  | inl none ↦ inr (rw none refl)
+  | inr none ↦ inl none
+])
 
 pub least_separate : (f g : Form) (path : List LoopRange) (y z : ℤ) → IsRising f.terms → IsRising g.terms → AreSeparate f.terms g.terms →
     IsLeast f path y → IsLeast g path z → IsLeastOver (IsInBox path) (λ p. form_at f p +ℤ form_at g p) (y +ℤ z)
 least_separate f g path y z rising_f rising_g apart least_f least_g = (
-    (λ p inside. omega (arith, ints, least_f.0 p inside, least_g.0 p inside)),
-    (mixed f.terms least_f.1.0 least_g.1.0, mixed_in f.terms path least_f.1.0 least_g.1.0 least_f.1.1 least_g.1.1,
-     omega (arith, ints, mixed_first f least_f.1.0 least_g.1.0 rising_f, mixed_second f g least_f.1.0 least_g.1.0 rising_g apart, least_f.1.2, least_g.1.2)))
+  (λ p inside. omega (arith, ints, least_f.0 p inside, least_g.0 p inside)),
+  (
+    mixed f.terms least_f.1.0 least_g.1.0,
+    mixed_in f.terms path least_f.1.0 least_g.1.0 least_f.1.1 least_g.1.1,
+    omega (arith, ints, mixed_first f least_f.1.0 least_g.1.0 rising_f, mixed_second f g least_f.1.0 least_g.1.0 rising_g apart, least_f.1.2, least_g.1.2),
+  ),
+)
 
 pub greatest_separate : (f g : Form) (path : List LoopRange) (y z : ℤ) → IsRising f.terms → IsRising g.terms → AreSeparate f.terms g.terms →
     IsGreatest f path y → IsGreatest g path z → IsGreatestOver (IsInBox path) (λ p. form_at f p +ℤ form_at g p) (y +ℤ z)
 greatest_separate f g path y z rising_f rising_g apart greatest_f greatest_g = (
-    (λ p inside. omega (arith, ints, greatest_f.0 p inside, greatest_g.0 p inside)),
-    (mixed f.terms greatest_f.1.0 greatest_g.1.0, mixed_in f.terms path greatest_f.1.0 greatest_g.1.0 greatest_f.1.1 greatest_g.1.1,
-     omega (arith, ints, mixed_first f greatest_f.1.0 greatest_g.1.0 rising_f, mixed_second f g greatest_f.1.0 greatest_g.1.0 rising_g apart, greatest_f.1.2, greatest_g.1.2)))
+  (λ p inside. omega (arith, ints, greatest_f.0 p inside, greatest_g.0 p inside)),
+  (
+    mixed f.terms greatest_f.1.0 greatest_g.1.0,
+    mixed_in f.terms path greatest_f.1.0 greatest_g.1.0 greatest_f.1.1 greatest_g.1.1,
+    omega (arith, ints, mixed_first f greatest_f.1.0 greatest_g.1.0 rising_f, mixed_second f g greatest_f.1.0 greatest_g.1.0 rising_g apart, greatest_f.1.2, greatest_g.1.2),
+  ),
+)

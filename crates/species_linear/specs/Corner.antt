@@ -1,5 +1,5 @@
 -- The corners of a box where a form is least and greatest.
-use Rattle.std.specs.Prelude.{if◌then◌else◌, ℕ, ℤ, pos, Bool, true, false, List}
+use Rattle.std.specs.Prelude.{if◌then◌else◌, ℤ, pos, Bool, true, false, List}
 use Rattle.std.specs.Int.RustNames.{int_lt}
 use Rattle.species_linear.specs.declared.forms.Form.{Form}
 use Rattle.species_linear.specs.declared.loops.LoopRange.{LoopRange}

@@ -1,5 +1,5 @@
 -- Terms in order.
-use Rattle.std.specs.Prelude.{◌≢◌, ℕ, ◌+◌, ◌≤◌, ℤ, pos, List, [], ◌∷◌}
+use Rattle.std.specs.Prelude.{◌≢◌, ℕ, ◌+◌, ◌≤◌, pos, List, [], ◌∷◌}
 use Rattle.species_linear.specs.declared.forms.Term.{Term}
 
 -- The levels are at least k and rise, and no coefficient is 0.

@@ -12,3 +12,6 @@ mod loops;
 pub use corners::{greatest, least};
 pub use forms::{Form, Term, Terms, value};
 pub use loops::{Direction, LoopRange, Ranges};
+
+#[cfg(test)]
+mod tests;

@@ -1,4 +1,4 @@
-use Rattle.std.proofs.Common.{◌≡◌, ◌≤◌, ◌<◌, ◌^◌, ◌+ℤ◌, ◌*ℤ◌, ◌∙◌, FitsSigned, ℕ, length, arith, rules, to_z, ℤ, pos, ap, sym, slice_index_or, List, All}
+use Rattle.std.proofs.Common.{◌≡◌, ◌≤◌, ◌<◌, ◌^◌, ◌∙◌, FitsSigned, length, rules, to_z, ℤ, pos, ap, sym, slice_index_or, All}
 use Rattle.std.proofs.lemmas.Int.{to_z-of_z}
 use Rattle.std.specs.Int.{w128, w64}
 use Rattle.std.specs.Int.RustNames.{unsigned_abs}
@@ -15,8 +15,8 @@ pub add_term-total-requires-clause-small_total : goal.add_term-total-requires-cl
 add_term-total-requires-clause-small_total c =
     let below : All (λ t. t.level < length c.args.path.now) c.as_slice-term-items.result.now = rw c.as_slice-term-items.ensures.value c.requires.named in
     running_small c.as_slice-term-items.result.now (corner_of c.args.lower c.args.form.now c.args.path.now)
-        (form_at c.args.form.now (corner_of c.args.lower c.args.form.now c.args.path.now)) c.loop-term.term-index
-        (length c.args.path.now) (to_z w128 c.loop-term.total-bits) c.as_slice-term-items.ensures.rising below c.requires.short c.loop-term-test.true c.loop-term.invariant
+    (form_at c.args.form.now (corner_of c.args.lower c.args.form.now c.args.path.now)) c.loop-term.term-index
+    (length c.args.path.now) (to_z w128 c.loop-term.total-bits) c.as_slice-term-items.ensures.rising below c.requires.short c.loop-term-test.true c.loop-term.invariant
 
 pub loop-term-preserved : goal.loop-term-preserved
 loop-term-preserved c =
@@ -27,14 +27,14 @@ loop-term-preserved c =
     let fits : FitsSigned w128 c.add_term-total.result = search rules in
     let end_fits : FitsSigned w64 c.end_of.result = search rules in
     let there : coefficient_at c.args.form.now.terms term.level ≡ term.coefficient =
-        rw (← c.as_slice-term-items.ensures.value)
-            (coefficient_of_term 0 c.as_slice-term-items.result.now c.loop-term.term-index nothing c.as_slice-term-items.ensures.rising c.loop-term-test.true) in
+    rw (← c.as_slice-term-items.ensures.value)
+    (coefficient_of_term 0 c.as_slice-term-items.result.now c.loop-term.term-index nothing c.as_slice-term-items.ensures.rising c.loop-term-test.true) in
     let same : c.end_of.result ≡ corner_of c.args.lower c.args.form.now c.args.path.now term.level =
-        c.end_of.ensures ∙ ap (λ (z : ℤ). end_of c.args.lower z (range_at c.args.path.now term.level)) (sym there) in
+    c.end_of.ensures ∙ ap (λ (z : ℤ). end_of c.args.lower z (range_at c.args.path.now term.level)) (sym there) in
     let step = rw (to_z-of_z w64 c.end_of.result end_fits, same) at c.add_term-total.ensures in
     let ends = c.requires.small_path term.level zero_range (below c.loop-term.term-index nothing c.loop-term-test.true) in
     rw (to_z-of_z w128 c.add_term-total.result fits) (running_next c.as_slice-term-items.result.now (corner_of c.args.lower c.args.form.now c.args.path.now) _
-        c.loop-term.term-index nothing (to_z w128 c.loop-term.total-bits) c.add_term-total.result c.loop-term-test.true
-        (small c.loop-term.term-index nothing c.loop-term-test.true)
-        (end_has (λ z. unsigned_abs z ≤ 2 ^ 40) c.args.lower (coefficient_at c.args.form.now.terms term.level) (range_at c.args.path.now term.level) ends.0 ends.1)
-        c.loop-term.invariant step)
+    c.loop-term.term-index nothing (to_z w128 c.loop-term.total-bits) c.add_term-total.result c.loop-term-test.true
+    (small c.loop-term.term-index nothing c.loop-term-test.true)
+    (end_has (λ z. unsigned_abs z ≤ 2 ^ 40) c.args.lower (coefficient_at c.args.form.now.terms term.level) (range_at c.args.path.now term.level) ends.0 ends.1)
+    c.loop-term.invariant step)

@@ -1,4 +1,4 @@
-use Rattle.std.proofs.Common.{◌≡◌, ◌≤◌, ◌<◌, ◌^◌, ◌+ℤ◌, ◌*ℤ◌, FitsSigned, ℕ, length, arith, rules, to_z, ℤ, pos, slice_index_or, List, All}
+use Rattle.std.proofs.Common.{◌<◌, ◌^◌, FitsSigned, length, rules, to_z, pos, slice_index_or, All}
 use Rattle.std.proofs.lemmas.Int.{to_z-of_z}
 use Rattle.std.specs.Int.{w128, w64}
 use Rattle.std.specs.Int.RustNames.{unsigned_abs}
@@ -12,7 +12,7 @@ pub add_term-total-requires-clause-small_total : goal.add_term-total-requires-cl
 add_term-total-requires-clause-small_total c =
     let below : All (λ t. t.level < length c.args.iters.now) c.as_slice-term-items.result.now = rw c.as_slice-term-items.ensures.value c.requires.named in
     running_small c.as_slice-term-items.result.now (point_of c.args.iters.now) (form_at c.args.form.now (point_of c.args.iters.now)) c.loop-term.term-index
-        (length c.args.iters.now) (to_z w128 c.loop-term.total-bits) c.as_slice-term-items.ensures.rising below c.requires.short c.loop-term-test.true c.loop-term.invariant
+    (length c.args.iters.now) (to_z w128 c.loop-term.total-bits) c.as_slice-term-items.ensures.rising below c.requires.short c.loop-term-test.true c.loop-term.invariant
 
 pub loop-term-preserved : goal.loop-term-preserved
 loop-term-preserved c =
@@ -24,7 +24,7 @@ loop-term-preserved c =
     let at_fits : FitsSigned w64 (point_of c.args.iters.now term.level) = search rules in
     let step = rw (to_z-of_z w64 (point_of c.args.iters.now term.level) at_fits) at c.add_term-total.ensures in
     rw (to_z-of_z w128 c.add_term-total.result fits) (running_next c.as_slice-term-items.result.now (point_of c.args.iters.now) _ c.loop-term.term-index nothing
-        (to_z w128 c.loop-term.total-bits) c.add_term-total.result c.loop-term-test.true
-        (small c.loop-term.term-index nothing c.loop-term-test.true)
-        (c.requires.small_iters term.level (pos 0) (below c.loop-term.term-index nothing c.loop-term-test.true))
-        c.loop-term.invariant step)
+    (to_z w128 c.loop-term.total-bits) c.add_term-total.result c.loop-term-test.true
+    (small c.loop-term.term-index nothing c.loop-term-test.true)
+    (c.requires.small_iters term.level (pos 0) (below c.loop-term.term-index nothing c.loop-term-test.true))
+    c.loop-term.invariant step)
