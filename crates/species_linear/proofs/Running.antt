@@ -26,8 +26,8 @@ running_next ts p whole i d total next h small_coefficient small_at before step 
       before.small (omega (arith, small_coefficient)) small_at (omega arith));
 }
 
--- at most 16 terms: the total stays within the bound of `add_term`
-pub running_small : (ts : List Term) (p : Point) (whole : ℤ) (i n : ℕ) (total : ℤ) → IsRising ts → All (λ t. t.level < n) ts → n ≤ 16 → i < length ts →
-    IsRunning ts p whole i total → unsigned_abs total ≤ 2 ^ 126
+-- of at most 16 levels the total stays small
+pub running_small : (ts : List Term) (p : Point) (whole : ℤ) (i n : ℕ) (total : ℤ) → IsRising ts → All (λ t. t.level < n) ts → n ≤ 16 → i ≤ length ts →
+    IsRunning ts p whole i total → unsigned_abs total ≤ 2 ^ 115
 running_small ts p whole i n total rising below few h now =
-    abs_steps_small i (2 ^ 110) 16 (2 ^ 126) total now.small (omega (arith, few_terms n 0 ts rising below (omega arith))) (omega arith)
+    abs_steps_small i (2 ^ 110) 16 (2 ^ 115) total now.small (omega (arith, few_terms n 0 ts rising below (omega arith))) (omega arith)

@@ -1,6 +1,7 @@
 //! The least and the greatest value of a form over a box, found at corners of the box.
 
-ghost use Rattle.std.specs.Prelude.{◌≡◌, length};
+ghost use Rattle.std.specs.Prelude.{◌≡◌, ◌≤◌, ◌^◌, length};
+ghost use Rattle.std.specs.Int.RustNames.{unsigned_abs};
 ghost use Rattle.species_linear.specs.Rising.{IsRising};
 ghost use Rattle.species_linear.specs.Point.{IsShort};
 ghost use Rattle.species_linear.specs.Value.{form_at, NamesOnly, HasSmallForm};
@@ -46,7 +47,8 @@ pub fn least(form: &Form, path: &[LoopRange]) -> i128
     requires small_form { HasSmallForm form.now }
     requires small_path { HasSmallPath path.now }
     requires full { IsFull path.now }
-    ensures { IsLeast form.now path.now result }
+    ensures least { IsLeast form.now path.now result }
+    ensures size { unsigned_abs result ≤ 2 ^ 115 }
 {
     corner(true, form, path)
 }
@@ -58,7 +60,8 @@ pub fn greatest(form: &Form, path: &[LoopRange]) -> i128
     requires small_form { HasSmallForm form.now }
     requires small_path { HasSmallPath path.now }
     requires full { IsFull path.now }
-    ensures { IsGreatest form.now path.now result }
+    ensures greatest { IsGreatest form.now path.now result }
+    ensures size { unsigned_abs result ≤ 2 ^ 115 }
 {
     corner(false, form, path)
 }

@@ -73,7 +73,7 @@ pub struct Form {
 
 /// A total and one product more.
 pub(crate) fn add_term(total: i128, term: Term, at: i64) -> i128
-    requires small_total { unsigned_abs total ≤ 2 ^ 126 }
+    requires small_total { unsigned_abs total ≤ 2 ^ 115 }
     requires small_coefficient { unsigned_abs term.coefficient < 2 ^ 70 }
     requires small_at { unsigned_abs at ≤ 2 ^ 40 }
     ensures { result ≡ total +ℤ term.coefficient *ℤ at }
@@ -87,7 +87,8 @@ pub fn value(form: &Form, iters: &[i64]) -> i128
     requires named { NamesOnly form.now (length iters.now) }
     requires small_form { HasSmallForm form.now }
     requires small_iters { HasSmallIters iters.now }
-    ensures { result ≡ form_at form.now (point_of iters.now) }
+    ensures value { result ≡ form_at form.now (point_of iters.now) }
+    ensures size { unsigned_abs result ≤ 2 ^ 115 }
 {
     let mut total = form.constant;
     for term in form.terms.as_slice() {

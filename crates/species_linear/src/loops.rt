@@ -75,14 +75,15 @@ impl From<Ranges> for Vec<LoopRange> {
     }
 }
 
-/// A direction of a dependence at one level of a nest: the iteration that depends on the other comes
-/// later ("less") or earlier there.
+/// A direction between the iterations of two references at one level of a nest: they agree at the
+/// levels before it, and differ at this one.
 #[derive(Clone, Copy, Debug, PartialEq, Eq)]
 pub struct Direction {
     /// The number of loops around the nest.
     pub outer: u32,
     /// The level, counted from 0 in the nest.
     pub level: u32,
-    /// Whether the first iteration's value at the level is below the second's.
+    /// Whether the first reference's iterator is below the second's there ("less"), or above it
+    /// ("greater").
     pub less: bool,
 }

@@ -1,4 +1,4 @@
-use Rattle.std.proofs.Common.{◌≡◌, ◌≤◌, ◌<◌, ◌^◌, ◌∙◌, FitsSigned, length, rules, to_z, ℤ, pos, ap, sym, slice_index_or, All}
+use Rattle.std.proofs.Common.{◌≡◌, ◌≤◌, ◌<◌, ◌^◌, ◌∙◌, FitsSigned, length, arith, rules, to_z, ℤ, pos, ap, sym, slice_index_or, All}
 use Rattle.std.proofs.lemmas.Int.{to_z-of_z}
 use Rattle.std.specs.Int.{w128, w64}
 use Rattle.std.specs.Int.RustNames.{unsigned_abs}
@@ -16,7 +16,7 @@ add_term-total-requires-clause-small_total c =
     let below : All (λ t. t.level < length c.args.path.now) c.as_slice-term-items.result.now = rw c.as_slice-term-items.ensures.value c.requires.named in
     running_small c.as_slice-term-items.result.now (corner_of c.args.lower c.args.form.now c.args.path.now)
     (form_at c.args.form.now (corner_of c.args.lower c.args.form.now c.args.path.now)) c.loop-term.term-index
-    (length c.args.path.now) (to_z w128 c.loop-term.total-bits) c.as_slice-term-items.ensures.rising below c.requires.short c.loop-term-test.true c.loop-term.invariant
+    (length c.args.path.now) (to_z w128 c.loop-term.total-bits) c.as_slice-term-items.ensures.rising below c.requires.short (omega (arith, c.loop-term-test.true)) c.loop-term.invariant
 
 pub loop-term-preserved : goal.loop-term-preserved
 loop-term-preserved c =

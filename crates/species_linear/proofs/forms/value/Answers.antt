@@ -1,4 +1,4 @@
-use Rattle.std.proofs.Common.{◌<◌, ◌^◌, FitsSigned, length, rules, to_z, pos, slice_index_or, All}
+use Rattle.std.proofs.Common.{◌<◌, ◌^◌, FitsSigned, length, arith, rules, to_z, pos, slice_index_or, All}
 use Rattle.std.proofs.lemmas.Int.{to_z-of_z}
 use Rattle.std.specs.Int.{w128, w64}
 use Rattle.std.specs.Int.RustNames.{unsigned_abs}
@@ -12,7 +12,7 @@ pub add_term-total-requires-clause-small_total : goal.add_term-total-requires-cl
 add_term-total-requires-clause-small_total c =
     let below : All (λ t. t.level < length c.args.iters.now) c.as_slice-term-items.result.now = rw c.as_slice-term-items.ensures.value c.requires.named in
     running_small c.as_slice-term-items.result.now (point_of c.args.iters.now) (form_at c.args.form.now (point_of c.args.iters.now)) c.loop-term.term-index
-    (length c.args.iters.now) (to_z w128 c.loop-term.total-bits) c.as_slice-term-items.ensures.rising below c.requires.short c.loop-term-test.true c.loop-term.invariant
+    (length c.args.iters.now) (to_z w128 c.loop-term.total-bits) c.as_slice-term-items.ensures.rising below c.requires.short (omega (arith, c.loop-term-test.true)) c.loop-term.invariant
 
 pub loop-term-preserved : goal.loop-term-preserved
 loop-term-preserved c =
@@ -28,3 +28,10 @@ loop-term-preserved c =
     (small c.loop-term.term-index nothing c.loop-term-test.true)
     (c.requires.small_iters term.level (pos 0) (below c.loop-term.term-index nothing c.loop-term-test.true))
     c.loop-term.invariant step)
+
+pub returns-clause-size : goal.returns-clause-size
+returns-clause-size c =
+    let below : All (λ t. t.level < length c.args.iters.now) c.as_slice-term-items.result.now = rw c.as_slice-term-items.ensures.value c.requires.named in
+    running_small c.as_slice-term-items.result.now (point_of c.args.iters.now) (form_at c.args.form.now (point_of c.args.iters.now)) c.loop-term.term-index
+    (length c.args.iters.now) (to_z w128 c.loop-term.total-bits) c.as_slice-term-items.ensures.rising below c.requires.short
+    c.loop-term.auto.term-index-end c.loop-term.invariant
