@@ -1,2 +1,4 @@
+pub mod Answer
+pub mod Bounds
 pub mod OneLoopText
 pub mod Table

@@ -1,2 +1,6 @@
 //! The commands of the compiler.
 #![tactic(auto)]
+
+mod one_loop;
+mod table;
+mod words;
