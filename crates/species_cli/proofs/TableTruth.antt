@@ -68,13 +68,13 @@ shifts_term (Term.Number n) = subst AllShifts (sym (eq.elements-Literal _)) tt
 shifts_term (Term.Plain e) = shifts_element e
 shifts_term (Term.Scaled n e) =
     subst AllShifts (sym (eq.elements-Binary binary.Mul (literal n) (element_expr e)))
-        (shifts-append (elements_of (literal n)) (elements_of (element_expr e)) (subst AllShifts (sym (eq.elements-Literal _)) tt) (shifts_element e))
+    (shifts-append (elements_of (literal n)) (elements_of (element_expr e)) (subst AllShifts (sym (eq.elements-Literal _)) tt) (shifts_element e))
 
 shifts_sum : (front : Expr) (ts : List Term) → AllShifts (elements_of front) → AllShifts (elements_of (sum_expr front ts))
 shifts_sum front [] h = h
 shifts_sum front (t ∷ ts) h =
     shifts_sum (expr.Binary binary.Add front (term_expr t)) ts
-        (subst AllShifts (sym (eq.elements-Binary binary.Add front (term_expr t))) (shifts-append (elements_of front) (elements_of (term_expr t)) h (shifts_term t)))
+    (subst AllShifts (sym (eq.elements-Binary binary.Add front (term_expr t))) (shifts-append (elements_of front) (elements_of (term_expr t)) h (shifts_term t)))
 
 abbrev AllShifted : List Access → Type 0
 AllShifted [] = Unit {0}
@@ -92,8 +92,8 @@ shifted_statement : (s : Statement) → AllShifted (statement_accesses (statemen
 shifted_statement s =
     let value : Expr = sum_expr (term_expr s.first) s.more in
     subst AllShifted (sym (accesses-Assign s.place s.target.array (subscript s.target.shift ∷ []) value (simple_shift s.target.shift)))
-        (shifted-append (map read_of (elements_of value)) _ (shifted_reads (elements_of value) (shifts_sum (term_expr s.first) s.more (shifts_term s.first)))
-            ((s.target.shift, refl), tt))
+    (shifted-append (map read_of (elements_of value)) _ (shifted_reads (elements_of value) (shifts_sum (term_expr s.first) s.more (shifts_term s.first)))
+    ((s.target.shift, refl), tt))
 
 shifted_body : (ss : List Statement) → AllShifted (flat_map statement_accesses (map statement_of ss))
 shifted_body [] = tt
@@ -134,16 +134,16 @@ limit-loop_of p = ap (λ (l : Loop-F Stmt Loop). bound_value l.limit) (layer-loo
 taken_at_least : (p : OneLoop) (v : ℤ) → Takes (loop_of p) v → start_of (loop_of p) ≤ℤ v
 taken_at_least p v t =
     let step : (out-Loop (loop_of p)).step *ℤ pos t.0 ≡ pos t.0 =
-        ap (λ (l : Loop-F Stmt Loop). l.step *ℤ pos t.0) (layer-loop_of p (loop_of p) refl) ∙ one_mul (pos t.0) in
+    ap (λ (l : Loop-F Stmt Loop). l.step *ℤ pos t.0) (layer-loop_of p (loop_of p) refl) ∙ one_mul (pos t.0) in
     omega (arith, ints, t.1, step)
 
 taken_below : (p : OneLoop) (v : ℤ) → Takes (loop_of p) v → v <ℤ bound_value (out-Loop (loop_of p)).limit
 taken_below p v t =
     let now : passes (out-Loop (loop_of p)).test (start_of (loop_of p) +ℤ (out-Loop (loop_of p)).step *ℤ pos t.0) (bound_value (out-Loop (loop_of p)).limit) =
-        t.2 t.0 (omega arith) in
+    t.2 t.0 (omega arith) in
     let less : passes test.Lt (start_of (loop_of p) +ℤ (out-Loop (loop_of p)).step *ℤ pos t.0) (bound_value (out-Loop (loop_of p)).limit) =
-        subst (λ o. passes o (start_of (loop_of p) +ℤ (out-Loop (loop_of p)).step *ℤ pos t.0) (bound_value (out-Loop (loop_of p)).limit))
-            (ap (λ (l : Loop-F Stmt Loop). l.test) (layer-loop_of p (loop_of p) refl)) now in
+    subst (λ o. passes o (start_of (loop_of p) +ℤ (out-Loop (loop_of p)).step *ℤ pos t.0) (bound_value (out-Loop (loop_of p)).limit))
+    (ap (λ (l : Loop-F Stmt Loop). l.test) (layer-loop_of p (loop_of p) refl)) now in
     omega (arith, ints, t.1, less)
 
 zero_plus : (x : ℤ) → pos 0 +ℤ x ≡ x
@@ -156,20 +156,27 @@ pub true_line : (p : OneLoop) (k : ℕ) (a : Access) → HasShift a.element.subs
 true_line p k a (s, is) =
     let offset : offset_of a.element.subscripts ≡ shift_number s = ap offset_of is ∙ value-shift (pos 0) s ∙ zero_plus (shift_number s) in
     record {
-        array = refl; direction = refl; sub = subscript s; is_only = is;
-        place = λ v t. omega (arith, ints, value-shift v s, offset);
-        only = λ v t q. (
-            (λ h. omega (arith, ints, value-shift v s, offset, h.0, h.1)),
-            (λ h. (omega (arith, ints, value-shift v s, offset, h), omega (arith, ints, value-shift v s, offset, h))));
-        domain = λ v t. (
-            omega (arith, ints, value-shift v s, offset, taken_at_least p v t),
-            omega (arith, ints, value-shift v s, offset, taken_below p v t)) }
+      array = refl;
+      direction = refl;
+      sub = subscript s;
+      is_only = is;
+      place = λ v t. omega (arith, ints, value-shift v s, offset);
+      only = λ v t q. (
+        (λ h. omega (arith, ints, value-shift v s, offset, h.0, h.1)),
+        (λ h. (omega (arith, ints, value-shift v s, offset, h), omega (arith, ints, value-shift v s, offset, h))),
+      );
+      domain = λ v t. (
+        omega (arith, ints, value-shift v s, offset, taken_at_least p v t),
+        omega (arith, ints, value-shift v s, offset, taken_below p v t),
+      );
+    }
 
 pub true_table : (p : OneLoop) → IsTrueTable (loop_of p)
 true_table p = record {
-    count = length-numbered 0 (accesses_of (loop_of p));
-    lines = λ k r a at there.
-        let shift = shifted_at (accesses_of (loop_of p)) k a (shifted_loop p) there in
-        let is : r ≡ reference_of (0 + k) a = same_some r (reference_of (0 + k) a) (sym at ∙ numbered_at 0 (accesses_of (loop_of p)) k a there) in
-        let number : 0 + k ≡ k = omega arith in
-        (ap (λ (z : FirstReference). z.number) is ∙ number, subst (λ z. IsTrueLine (loop_of p) z a) (sym is) (true_line p (0 + k) a shift)) }
+  count = length-numbered 0 (accesses_of (loop_of p));
+  lines = λ k r a at there.
+      let shift = shifted_at (accesses_of (loop_of p)) k a (shifted_loop p) there in
+      let is : r ≡ reference_of (0 + k) a = same_some r (reference_of (0 + k) a) (sym at ∙ numbered_at 0 (accesses_of (loop_of p)) k a there) in
+      let number : 0 + k ≡ k = omega arith in
+      (ap (λ (z : FirstReference). z.number) is ∙ number, subst (λ z. IsTrueLine (loop_of p) z a) (sym is) (true_line p (0 + k) a shift));
+}
