@@ -1,1 +1,3 @@
 pub mod OneLoopText
+pub mod OneLoopReading
+pub mod NameTable

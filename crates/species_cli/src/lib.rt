@@ -1,2 +1,4 @@
 //! The commands of the compiler.
 #![tactic(auto)]
+
+mod one_loop;
