@@ -5,8 +5,8 @@ use Rattle.species_ast.specs.declared.tree.Unit as tree
 use Rattle.species_reference.specs.OneLoop.{OneLoop, unit_of}
 use Rattle.species_cli.specs.OneLoopText.{IsOneLoopText}
 use Rattle.species_cli.specs.OneLoopReading.{Gives, unit_at}
-use Rattle.species_cli.specs.declared.one_loop.refusal.ReadRefusal.{ReadRefusal}
-use Rattle.species_cli.specs.declared.one_loop.refusal.ReadRefusal.TheVariants as refusal
+use Rattle.species_cli.specs.declared.one_loop.ReadRefusal.{ReadRefusal}
+use Rattle.species_cli.specs.declared.one_loop.ReadRefusal.TheVariants as refusal
 use Rattle.species_cli.proofs.OneLoopSound.{some_same, none_some, unit_took}
 use Rattle.species_cli.proofs.OneLoopComplete.{unit_full}
 

@@ -1,3 +1,4 @@
-pub mod OneLoopText
-pub mod OneLoopReading
 pub mod NameTable
+pub mod OneLoopReading
+pub mod OneLoopText
+pub mod Table

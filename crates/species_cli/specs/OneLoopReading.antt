@@ -15,8 +15,8 @@ use Rattle.species_ast.specs.declared.tree.Loop.{roll-Loop}
 use Rattle.species_ast.specs.declared.tree.Stmt.TheOpen.{Loop-F}
 use Rattle.species_ast.specs.declared.tree.Unit as tree
 use Rattle.species_reference.specs.OneLoop.{literal, array_of, Declaration, most_size, most_number}
-use Rattle.species_cli.specs.declared.one_loop.refusal.ReadRefusal.{ReadRefusal}
-use Rattle.species_cli.specs.declared.one_loop.refusal.ReadRefusal.TheVariants as refusal
+use Rattle.species_cli.specs.declared.one_loop.ReadRefusal.{ReadRefusal}
+use Rattle.species_cli.specs.declared.one_loop.ReadRefusal.TheVariants as refusal
 
 use denote.Ref.{Bor}
 

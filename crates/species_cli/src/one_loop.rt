@@ -3,24 +3,63 @@
 mod body;
 mod header;
 mod names;
-mod refusal;
 mod words;
 
 ghost use Rattle.std.specs.Prelude.{◌≡◌, ◌≤◌, ℕ, length, IfOk, Err, Some};
 ghost use Rattle.species_reference.specs.OneLoop.{OneLoop, unit_of};
 ghost use Rattle.species_cli.specs.OneLoopText.{IsOneLoopText};
-ghost use Rattle.species_cli.specs.declared.one_loop.refusal.ReadRefusal.TheVariants.{NotBuilt};
+ghost use Rattle.species_cli.specs.declared.one_loop.ReadRefusal.TheVariants.{NotBuilt};
 ghost use Rattle.species_cli.specs.OneLoopReading.{Gives, names_in, are_new, loop_at, loop_from, rest_at, unit_at};
 
 use body::{literal, read_body};
 use header::{read_arrays, read_function, read_limit, read_start};
 use names::ArrayNames;
-use species_ast::{Array, Includes, Loop, Mark, Name, Stmt, Test, Unit};
+use species_ast::{Includes, Loop, Mark, Name, OutOfMemory, Stmt, Test, Unit};
 use sqlite_items::Items;
-use std::alloc::Global;
+use std::alloc::{AllocError, AllocFailed, Global};
 use words::skip;
 
-pub(crate) use refusal::ReadRefusal;
+/// Why a text was not read.
+#[derive(Clone, Copy, Debug, PartialEq, Eq)]
+pub(crate) enum ReadRefusal {
+    /// The text is no one-loop program.
+    NotBuilt,
+    /// Memory ran out.
+    Memory,
+}
+
+impl From<AllocError> for ReadRefusal {
+    ghost use Rattle.std.specs.Prelude.{◌≡◌};
+    ghost use Rattle.species_cli.specs.declared.one_loop.ReadRefusal.TheVariants.{Memory};
+
+    ghost from_gives = { λ _ e. e ≡ Memory };
+
+    fn from(_: AllocError) -> ReadRefusal {
+        ReadRefusal::Memory
+    }
+}
+
+impl<T: Drop> From<AllocFailed<T>> for ReadRefusal {
+    ghost use Rattle.std.specs.Prelude.{◌≡◌};
+    ghost use Rattle.species_cli.specs.declared.one_loop.ReadRefusal.TheVariants.{Memory};
+
+    ghost from_gives = { λ _ e. e ≡ Memory };
+
+    fn from(_: AllocFailed<T>) -> ReadRefusal {
+        ReadRefusal::Memory
+    }
+}
+
+impl From<OutOfMemory> for ReadRefusal {
+    ghost use Rattle.std.specs.Prelude.{◌≡◌};
+    ghost use Rattle.species_cli.specs.declared.one_loop.ReadRefusal.TheVariants.{Memory};
+
+    ghost from_gives = { λ _ e. e ≡ Memory };
+
+    fn from(_: OutOfMemory) -> ReadRefusal {
+        ReadRefusal::Memory
+    }
+}
 
 /// Whether the function, the iterator and the arrays have different names.
 fn are_new(function: &[u8], iterator: &[u8], names: &ArrayNames<'_>) -> bool

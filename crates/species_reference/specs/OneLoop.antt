@@ -81,8 +81,8 @@ statement_of s =
 abbrev pub array_of : Declaration → Array
 array_of d = record { name = d.name; kind = kind.Int; dims = d.size ∷ [] }
 
-abbrev pub loop_of : OneLoop → Loop
-loop_of p = roll-Loop (record {
+abbrev pub layer_of : OneLoop → Loop-F Stmt Loop
+layer_of p = record {
   place = p.place;
   iter = p.iterator;
   start = literal p.start;
@@ -92,7 +92,10 @@ loop_of p = roll-Loop (record {
   body = map statement_of p.body;
   line = None;
   mark = mark.Plain;
-})
+}
+
+abbrev pub loop_of : OneLoop → Loop
+loop_of p = roll-Loop (layer_of p)
 
 abbrev pub unit_of : OneLoop → unit.Unit
 unit_of p = record {

@@ -5,7 +5,7 @@ ghost use Rattle.species_reference.specs.OneLoop.{literal};
 ghost use Rattle.species_cli.specs.OneLoopReading.{Gives, after, sign_at, shift_at, subscript_at, element_at, read_of, begins_with_digit, scaled_at, term_at, sum_at, statement_at, body_at, seen_sign};
 
 use super::names::ArrayNames;
-use super::refusal::ReadRefusal;
+use super::ReadRefusal;
 use super::words::{after, is_digit, read_number, skip, word_len};
 use species_ast::{Binary, Expr, Stmt, Value};
 use sqlite_items::{Boxed, Items};

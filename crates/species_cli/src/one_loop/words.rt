@@ -5,7 +5,7 @@ ghost use Rattle.std.specs.List.{list_any, list_all};
 ghost use Rattle.species_ast.specs.Names.{is_letter, is_digit, is_word, is_keyword, is_name};
 ghost use Rattle.species_cli.specs.OneLoopReading.{Gives, after, name_at, number_on, number_at};
 
-use super::refusal::ReadRefusal;
+use super::ReadRefusal;
 use itoa::Buffer;
 
 /// The keywords of C.
