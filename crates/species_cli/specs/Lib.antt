@@ -1,3 +1,4 @@
+pub mod Answer
 pub mod NameTable
 pub mod OneLoopReading
 pub mod OneLoopText
