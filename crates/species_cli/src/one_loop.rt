@@ -131,10 +131,9 @@ fn read_unit(alloc: Global, bytes: &[u8]) -> Result<Unit, ReadRefusal>
 {
     let (arrays, names, rest) = read_arrays(alloc, bytes)?;
     let (function, rest) = read_function(rest)?;
-    let head = read_loop(alloc, &names, function, bytes.len(), rest)?;
-    let function = Name::new(alloc, function)?;
     let mut body = Items::new(alloc);
-    body.push(head)?;
+    body.push(read_loop(alloc, &names, function, bytes.len(), rest)?)?;
+    let function = Name::new(alloc, function)?;
     Ok(Unit {
         includes: Includes::new(alloc),
         arrays,

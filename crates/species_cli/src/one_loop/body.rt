@@ -15,13 +15,13 @@ use std::alloc::Global;
 #[derive(Drop)]
 struct Element {
     array: u32,
-    subscript: Expr,
+    subscript: Boxed<Expr>,
 }
 
 /// An expression, and how many elements it has.
 #[derive(Drop)]
 struct Sum {
-    value: Expr,
+    value: Boxed<Expr>,
     elements: u32,
 }
 
@@ -33,12 +33,15 @@ pub(super) fn literal(number: u32) -> Expr
     Expr::Literal(Value::Int(number as i32))
 }
 
-fn binary(alloc: Global, operator: Binary, left: Expr, right: Expr) -> Result<Expr, ReadRefusal>
+fn binary(
+    alloc: Global,
+    operator: Binary,
+    left: Boxed<Expr>,
+    right: Boxed<Expr>,
+) -> Result<Boxed<Expr>, ReadRefusal>
     ensures { Gives (λ x. x) result (Some (expr.Binary operator left right)) }
 {
-    let left = Boxed::new(alloc, left)?;
-    let right = Boxed::new(alloc, right)?;
-    Ok(Expr::Binary(operator, left, right))
+    Ok(Boxed::new(alloc, Expr::Binary(operator, left, right))?)
 }
 
 /// The sign between blanks that stands here.
@@ -57,14 +60,19 @@ fn sign(bytes: &[u8]) -> Option<(Binary, &[u8])>
 
 /// A subscript behind the iterator.
 #[tactic(auto, unfolding(crate::specs::OneLoopReading::shift_at))]
-fn read_shift(alloc: Global, bytes: &[u8]) -> Result<(Expr, &[u8]), ReadRefusal>
+fn read_shift(alloc: Global, bytes: &[u8]) -> Result<(Boxed<Expr>, &[u8]), ReadRefusal>
     ensures { Gives (λ x. (x.0, x.1.now)) result (shift_at bytes.now) }
 {
     match sign(bytes) {
-        None => Ok((Expr::Iter(0), bytes)),
+        None => {
+            let iterator = Boxed::new(alloc, Expr::Iter(0))?;
+            Ok((iterator, bytes))
+        }
         Some((operator, rest)) => {
             let (number, rest) = read_number(1_073_741_824, rest)?;
-            let shifted = binary(alloc, operator, Expr::Iter(0), literal(number))?;
+            let iterator = Boxed::new(alloc, Expr::Iter(0))?;
+            let number = Boxed::new(alloc, literal(number))?;
+            let shifted = binary(alloc, operator, iterator, number)?;
             Ok((shifted, rest))
         }
     }
@@ -107,13 +115,13 @@ fn read_element<'a>(
 }
 
 /// The value of an element.
-fn element_value(alloc: Global, element: Element) -> Result<Expr, ReadRefusal>
+fn element_value(alloc: Global, element: Element) -> Result<Boxed<Expr>, ReadRefusal>
     ensures { Gives (λ x. x) result (Some (read_of (element.array, element.subscript))) }
 {
     let Element { array, subscript } = element;
     let mut subscripts = Items::new(alloc);
-    subscripts.push(subscript)?;
-    Ok(Expr::Elem(array, subscripts))
+    subscripts.push(subscript.into_inner())?;
+    Ok(Boxed::new(alloc, Expr::Elem(array, subscripts))?)
 }
 
 /// A number, or a number times an element, behind the number.
@@ -130,19 +138,16 @@ fn read_scaled<'a>(
     ensures value { Gives (λ x. ((x.0.value, x.0.elements), x.1.now)) result (scaled_at names.now iterator.now number bytes.now) }
     ensures few { IfOk result (λ x. x.0.elements ≤ 1) }
 {
-    let number = literal(number);
     match after(b" * ", bytes) {
-        None => Ok((
-            Sum {
-                value: number,
-                elements: 0,
-            },
-            bytes,
-        )),
+        None => {
+            let value = Boxed::new(alloc, literal(number))?;
+            Ok((Sum { value, elements: 0 }, bytes))
+        }
         Some(rest) => {
             let (element, rest) = read_element(alloc, names, iterator, rest)?;
             let element = element_value(alloc, element)?;
-            let value = binary(alloc, Binary::Mul, number, element)?;
+            let factor = Boxed::new(alloc, literal(number))?;
+            let value = binary(alloc, Binary::Mul, factor, element)?;
             Ok((Sum { value, elements: 1 }, rest))
         }
     }
@@ -230,12 +235,12 @@ fn read_statement<'a>(
     let (sum, rest) = read_sum(alloc, names, iterator, first, rest)?;
     let rest = skip(b";\n", rest)?;
     let mut subs = Items::new(alloc);
-    subs.push(target.subscript)?;
+    subs.push(target.subscript.into_inner())?;
     let assign = Stmt::Assign {
         place,
         array: target.array,
         subs,
-        value: sum.value,
+        value: sum.value.into_inner(),
     };
     Ok((assign, sum.elements, rest))
 }
