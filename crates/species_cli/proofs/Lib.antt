@@ -1,6 +1,9 @@
-pub mod OneLoopWords
+pub mod Lists
 pub mod NameTable
-pub mod OneLoopLoops
-pub mod OneLoopSound
 pub mod OneLoopComplete
+pub mod OneLoopLoops
 pub mod OneLoopRead
+pub mod OneLoopSound
+pub mod OneLoopWords
+pub mod TableLemmas
+pub mod TableTruth

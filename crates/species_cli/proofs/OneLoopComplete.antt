@@ -77,6 +77,7 @@ letter_no_digit b h = go (is_digit b) refl
         ap (λ t. (t && nat_le b 90) || ((nat_le 97 b && nat_le b 122) || nat_eq b 95)) (lt-leb 65 b f1)
         ∙ ap (λ t. (t && nat_le b 122) || nat_eq b 95) (lt-leb 97 b f2)
         ∙ ne_eqb b 95 (λ e. let x : ⊥ = omega (arith, small, e) in x)
+
     go : (t : Bool) → is_digit b ≡ t → t ≡ false
     go true e = absurd (both_ways (is_letter b) (none e) h)
     go false e = refl
@@ -157,7 +158,7 @@ position_full ds k lt distinct =
     let le : k ≤ length xs = omega (arith, below) in
     let here : p (get_or xs k []) ≡ true = ap (λ w. bytes_eq w (get_or xs k [])) (array_name_is ds k) ∙ same_true (get_or xs k []) in
     let place = position_or_len_is p xs k [] le
-        (λ j before. bytes_differ (array_name ds k) (get_or xs j []) (λ e. distinct j k [] before below (sym e ∙ array_name_is ds k))) (λ _. here) in
+    (λ j before. bytes_differ (array_name ds k) (get_or xs j []) (λ e. distinct j k [] before below (sym e ∙ array_name_is ds k))) (λ _. here) in
     ap (λ n. if nat_lt n (length xs) then Some n else None) place ∙ ap (λ t. if t then Some k else None) (lt-ltb k (length xs) below)
 
 -- what follows a term
@@ -195,7 +196,7 @@ module _ (ds : List Declaration) (iter : List ℕ) (good : IsDeclared ds) where
       let text = element_text ds iter m ++ rest in
       let word = array_name ds m.array in
       let first : begins_with_digit text ≡ false =
-          ap begins_with_digit (element_regroup word iter (shift_text m.shift) rest) ∙ name_no_digit word (codes "[" ++ (iter ++ (shift_text m.shift ++ (codes "]" ++ rest)))) (name_is m.array h.0) in
+      ap begins_with_digit (element_regroup word iter (shift_text m.shift) rest) ∙ name_no_digit word (codes "[" ++ (iter ++ (shift_text m.shift ++ (codes "]" ++ rest)))) (name_is m.array h.0) in
       ap (λ t. if t then (number_at most_number text >>= (λ n. scaled_at (named ds) iter n.0 n.1)) else (element_at (named ds) iter text >>= (λ e. gave (counted (read_of e.0) 1) e.1))) first
       ∙ ap (λ o. o >>= (λ e. gave (counted (read_of e.0) 1) e.1)) (element_full m rest h)
   term_full (Term.Scaled n m) rest h e =
@@ -233,7 +234,7 @@ module _ (ds : List Declaration) (iter : List ℕ) (good : IsDeclared ds) where
   statement_full : (total : ℕ) (s : Statement) (rest : List ℕ) → IsLawfulStatement (length ds) s
       → s.place ≡ total - length (element_text ds iter s.target ++ (codes " = " ++ (term_text ds iter s.first ++ (more_text ds iter s.more ++ (codes ";\n" ++ rest)))))
       → statement_at (named ds) iter total (element_text ds iter s.target ++ (codes " = " ++ (term_text ds iter s.first ++ (more_text ds iter s.more ++ (codes ";\n" ++ rest)))))
-          ≡ Some (weighed (statement_of s) (1 + (term_elements s.first + terms_elements s.more)), rest)
+      ≡ Some (weighed (statement_of s) (1 + (term_elements s.first + terms_elements s.more)), rest)
   unfolding statement_at
   statement_full total s rest h at_place =
       let tail = more_text ds iter s.more ++ (codes ";\n" ++ rest) in
@@ -245,11 +246,11 @@ module _ (ds : List Declaration) (iter : List ℕ) (good : IsDeclared ds) where
       let fewer : length s.more ≤ 63 = omega (arith, h.few) in
       let add : (1 + term_elements s.first) + terms_elements s.more ≡ 1 + (term_elements s.first + terms_elements s.more) = omega arith in
       ap (λ o. o >>= (λ e. after (codes " = ") e.1 >>= (λ a. term_at (named ds) iter a >>= (λ t. sum_at (named ds) iter 63 t.0.0 (1 + t.0.1) t.1 >>= (λ s. after (codes ";\n") s.1 >>= (λ b. gave (weighed (stmt.Assign place e.0.0 (e.0.1 ∷ []) s.0.0) s.0.1) b))))))
-          (element_full s.target (codes " = " ++ (term_text ds iter s.first ++ tail)) h.target)
+      (element_full s.target (codes " = " ++ (term_text ds iter s.first ++ tail)) h.target)
       ∙ ap (λ o. o >>= (λ t. sum_at (named ds) iter 63 t.0.0 (1 + t.0.1) t.1 >>= (λ s. after (codes ";\n") s.1 >>= (λ b. gave (weighed (stmt.Assign place target.0 (target.1 ∷ []) s.0.0) s.0.1) b))))
-          (term_full s.first tail h.first (sum_ends s.more rest))
+      (term_full s.first tail h.first (sum_ends s.more rest))
       ∙ ap (λ o. o >>= (λ s. after (codes ";\n") s.1 >>= (λ b. gave (weighed (stmt.Assign place target.0 (target.1 ∷ []) s.0.0) s.0.1) b)))
-          (sum_full 63 s.more (term_expr s.first) (1 + term_elements s.first) rest fewer h.more)
+      (sum_full 63 s.more (term_expr s.first) (1 + term_elements s.first) rest fewer h.more)
       ∙ ap (λ n. gave (weighed (stmt.Assign place target.0 (target.1 ∷ []) value) n) rest) add
       ∙ ap (λ n. gave (weighed (stmt.Assign n target.0 (target.1 ∷ []) value) (1 + (term_elements s.first + terms_elements s.more))) rest) (sym at_place)
 
@@ -337,7 +338,7 @@ arrays_full zero done (d ∷ ds) rest le g e = let x : ⊥ = omega (arith, le) i
 arrays_full (suc m) done (d ∷ ds) rest le g e =
     let behind = flat_map declaration_text ds ++ rest in
     let text : flat_map declaration_text (d ∷ ds) ++ rest ≡ codes "int " ++ (d.name ++ (codes "[" ++ (decimal d.size ++ (codes "];\n" ++ behind)))) =
-        append_assoc (declaration_text d) (flat_map declaration_text ds) rest ∙ sym (declaration_regroup d.name (decimal d.size) behind) in
+    append_assoc (declaration_text d) (flat_map declaration_text ds) rest ∙ sym (declaration_regroup d.name (decimal d.size) behind) in
     let names : AllPairs (λ m n. m ≢ n) (named done ++ d.name ∷ named ds) = subst (AllPairs (λ m n. m ≢ n)) (named_append done (d ∷ ds)) g.distinct in
     let words : All (λ n. IsTrue (is_name n)) (named done ++ d.name ∷ named ds) = subst (All (λ n. IsTrue (is_name n))) (named_append done (d ∷ ds)) g.names in
     let name : is_name d.name ≡ true = is_true (is_name d.name) (all_middle (λ n. IsTrue (is_name n)) (named done) d.name (named ds) words) in
@@ -426,16 +427,16 @@ unit_full bs p h =
     let first : length fore + length head ≡ total - length body_text = omega (arith, len, len1) in
     let front : bs ≡ flat_map declaration_text ds ++ (codes "void " ++ (f ++ (codes "(void) {\n" ++ b1))) = h.text ∙ sym (front_regroup (flat_map declaration_text ds) f b1) in
     let arrays : arrays_at total [] bs ≡ Some (map array_of ds, codes "void " ++ (f ++ (codes "(void) {\n" ++ b1))) =
-        ap (arrays_at total []) front ∙ arrays_full total [] ds (codes "void " ++ (f ++ (codes "(void) {\n" ++ b1))) few good refl in
+    ap (arrays_at total []) front ∙ arrays_full total [] ds (codes "void " ++ (f ++ (codes "(void) {\n" ++ b1))) few good refl in
     let start : start_at b1 ≡ Some (sized iter p.start, iter ++ (codes " < " ++ (decimal p.limit ++ (codes "; " ++ (iter ++ (codes "++) {\n" ++ body_text)))))) =
-        ap start_at (sym (header_regroup iter (decimal p.start) (decimal p.limit) body_text)) ∙ start_full iter p.start (iter ++ (codes " < " ++ (decimal p.limit ++ (codes "; " ++ (iter ++ (codes "++) {\n" ++ body_text)))))) iname h.numbers.start in
+    ap start_at (sym (header_regroup iter (decimal p.start) (decimal p.limit) body_text)) ∙ start_full iter p.start (iter ++ (codes " < " ++ (decimal p.limit ++ (codes "; " ++ (iter ++ (codes "++) {\n" ++ body_text)))))) iname h.numbers.start in
     let rest = rest_full ds iter good total p.body h.numbers.statements h.numbers.few within (subst (λ k. ArePlaced ds iter k p.body) first h.places.statements) in
     let loop : loop_at (named ds) f total b1 ≡ Some (loop_from p.place iter p.start p.limit (map statement_of p.body)) =
-        ap (λ o. o >>= (λ s. limit_at s.0.0 s.1 >>= (λ l. if are_new f s.0.0 (named ds) then (rest_at (named ds) s.0.0 total l.1 >>= (λ body. Some (loop_from (total - length b1 + 4) s.0.0 s.0.1 l.0 body))) else None))) start
-        ∙ ap (λ o. o >>= (λ l. if are_new f iter (named ds) then (rest_at (named ds) iter total l.1 >>= (λ body. Some (loop_from (total - length b1 + 4) iter p.start l.0 body))) else None)) (limit_full iter p.limit body_text h.numbers.limit)
-        ∙ ap (λ t. if t then (rest_at (named ds) iter total body_text >>= (λ body. Some (loop_from (total - length b1 + 4) iter p.start p.limit body))) else None) (new_full f iter (named ds) h.names.distinct)
-        ∙ ap (λ o. o >>= (λ body. Some (loop_from (total - length b1 + 4) iter p.start p.limit body))) rest
-        ∙ ap (λ n. Some (loop_from n iter p.start p.limit (map statement_of p.body))) here in
+    ap (λ o. o >>= (λ s. limit_at s.0.0 s.1 >>= (λ l. if are_new f s.0.0 (named ds) then (rest_at (named ds) s.0.0 total l.1 >>= (λ body. Some (loop_from (total - length b1 + 4) s.0.0 s.0.1 l.0 body))) else None))) start
+    ∙ ap (λ o. o >>= (λ l. if are_new f iter (named ds) then (rest_at (named ds) iter total l.1 >>= (λ body. Some (loop_from (total - length b1 + 4) iter p.start l.0 body))) else None)) (limit_full iter p.limit body_text h.numbers.limit)
+    ∙ ap (λ t. if t then (rest_at (named ds) iter total body_text >>= (λ body. Some (loop_from (total - length b1 + 4) iter p.start p.limit body))) else None) (new_full f iter (named ds) h.names.distinct)
+    ∙ ap (λ o. o >>= (λ body. Some (loop_from (total - length b1 + 4) iter p.start p.limit body))) rest
+    ∙ ap (λ n. Some (loop_from n iter p.start p.limit (map statement_of p.body))) here in
     ap (λ o. o >>= (λ a. function_at a.1 >>= (λ f. loop_at (names_in a.0) f.0 total f.1 >>= (λ loop. Some (unit_from a.0 f.0 loop))))) arrays
     ∙ ap (λ o. o >>= (λ f. loop_at (names_in (map array_of ds)) f.0 total f.1 >>= (λ loop. Some (unit_from (map array_of ds) f.0 loop)))) (function_full f b1 fname)
     ∙ ap (λ n. loop_at n f total b1 >>= (λ loop. Some (unit_from (map array_of ds) f loop))) (names_of_arrays ds)

@@ -152,9 +152,9 @@ module _ (ds : List Declaration) (iter : List ℕ) where
       let e2 = after_took iter a.0 b.0 b.1 in
       let e3 = after_took (codes "]") s.0.1 rest (c.1 ∙ ap (λ l. Some l) same.1) in
       let text : behind ≡ codes "[" ++ (iter ++ (shift_text sh.0 ++ (codes "]" ++ rest))) =
-          e1 ∙ ap (λ l. codes "[" ++ l) (e2 ∙ ap (λ l. iter ++ l) (sh.3 ∙ ap (λ l. shift_text sh.0 ++ l) e3)) in
+      e1 ∙ ap (λ l. codes "[" ++ l) (e2 ∙ ap (λ l. iter ++ l) (sh.3 ∙ ap (λ l. shift_text sh.0 ++ l) e3)) in
       let whole : bs ≡ element_text ds iter (record { array = k.0; shift = sh.0 }) ++ rest =
-          e0 ∙ ap (λ l. array_name ds k.0 ++ l) text ∙ simp append_assoc in
+      e0 ∙ ap (λ l. array_name ds k.0 ++ l) text ∙ simp append_assoc in
       (record { array = k.0; shift = sh.0 }, sym same.0 ∙ ap (at k.0) sh.1, (below, sh.2), whole)
 
   -- ---- terms and sums
@@ -173,9 +173,13 @@ module _ (ds : List Declaration) (iter : List ℕ) where
           let b = bind_some (element_at (named ds) iter a) (λ e. gave (counted (expr.Binary binary.Mul (literal n) (read_of e.0)) 1) e.1) (x, rest) h in
           let s = same_read (counted (expr.Binary binary.Mul (literal n) (read_of b.0.0)) 1) x b.0.1 rest b.2 in
           let m = element_took a b.0.0 b.0.1 b.1 in
-          let e1 = after_took (codes " * ") more a e in
-          (Term.Scaled n m.0, sym s.0 ∙ ap (λ e. counted (expr.Binary binary.Mul (literal n) (read_of e)) 1) m.1, (le, m.2),
-           text ∙ ap (λ l. decimal n ++ l) (e1 ∙ ap (λ l. codes " * " ++ l) (m.3 ∙ ap (λ l. element_text ds iter m.0 ++ l) s.1)) ∙ sym (append_assoc (decimal n) (codes " * " ++ element_text ds iter m.0) rest))
+          let e1 = after_took (codes " * ") more a e in (
+            Term.Scaled n m.0,
+            sym s.0 ∙ ap (λ e. counted (expr.Binary binary.Mul (literal n) (read_of e)) 1) m.1,
+            (le, m.2),
+            text ∙ ap (λ l. decimal n ++ l) (e1 ∙ ap (λ l. codes " * " ++ l) (m.3 ∙ ap (λ l. element_text ds iter m.0 ++ l) s.1)) ∙ sym (append_assoc (decimal n) (codes " * " ++ element_text ds iter m.0) rest),
+          )
+
       go : (t : Bool) → (if t then (number_at most_number bs >>= (λ n. scaled_at (named ds) iter n.0 n.1)) else (element_at (named ds) iter bs >>= (λ e. gave (counted (read_of e.0) 1) e.1))) ≡ Some (x, rest)
           → (t : Term) × (x ≡ counted (term_expr t) (term_elements t)) × IsLawfulTerm (length ds) t × (bs ≡ term_text ds iter t ++ rest)
       go true h =
@@ -201,7 +205,7 @@ module _ (ds : List Declaration) (iter : List ℕ) where
   sum_took (suc m) sum count bs x rest h = go (λ sum count bs g. sum_took m sum count bs x rest g) (after (codes " + ") bs) refl h
     where
       go : ((sum : Expr) (count : ℕ) (bs : List ℕ) → sum_at (named ds) iter m sum count bs ≡ Some (x, rest)
-              → (more : List Term) × (x ≡ counted (sum_expr sum more) (count + terms_elements more)) × All (IsLawfulTerm (length ds)) more × (length more ≤ m) × (bs ≡ more_text ds iter more ++ rest))
+          → (more : List Term) × (x ≡ counted (sum_expr sum more) (count + terms_elements more)) × All (IsLawfulTerm (length ds)) more × (length more ≤ m) × (bs ≡ more_text ds iter more ++ rest))
           → (o : Option (List ℕ)) → after (codes " + ") bs ≡ o → sum_of (sum_at (named ds) iter m) (term_at (named ds) iter) o sum count bs ≡ Some (x, rest)
           → (more : List Term) × (x ≡ counted (sum_expr sum more) (count + terms_elements more)) × All (IsLawfulTerm (length ds)) more × (length more ≤ suc m) × (bs ≡ more_text ds iter more ++ rest)
       go again None e h = let s = same_read (counted sum count) x bs rest h in ended_sum (suc m) sum count bs x rest s.0 s.1
@@ -211,18 +215,19 @@ module _ (ds : List Declaration) (iter : List ℕ) where
           let r = again (expr.Binary binary.Add sum b.0.0.0) (count + b.0.0.1) b.0.1 b.2 in
           let value : b.0.0.0 ≡ term_expr t.0 = ap (λ p. p.0) t.1 in
           let size : b.0.0.1 ≡ term_elements t.0 = ap (λ p. p.1) t.1 in
-          let add : (count + b.0.0.1) + terms_elements r.0 ≡ count + (term_elements t.0 + terms_elements r.0) = omega (arith, size) in
-          (t.0 ∷ r.0,
-           r.1 ∙ ap (λ v. counted (sum_expr (expr.Binary binary.Add sum v) r.0) ((count + b.0.0.1) + terms_elements r.0)) value ∙ ap (counted (sum_expr sum (t.0 ∷ r.0))) add,
-           All-cons (IsLawfulTerm (length ds)) t.0 r.0 t.2 r.2,
-           omega (arith, r.3),
-           after_took (codes " + ") bs a e ∙ ap (λ l. codes " + " ++ l) (t.3 ∙ ap (λ l. term_text ds iter t.0 ++ l) r.4 ∙ sym (append_assoc (term_text ds iter t.0) (more_text ds iter r.0) rest)))
+          let add : (count + b.0.0.1) + terms_elements r.0 ≡ count + (term_elements t.0 + terms_elements r.0) = omega (arith, size) in (
+            t.0 ∷ r.0,
+            r.1 ∙ ap (λ v. counted (sum_expr (expr.Binary binary.Add sum v) r.0) ((count + b.0.0.1) + terms_elements r.0)) value ∙ ap (counted (sum_expr sum (t.0 ∷ r.0))) add,
+            All-cons (IsLawfulTerm (length ds)) t.0 r.0 t.2 r.2,
+            omega (arith, r.3),
+            after_took (codes " + ") bs a e ∙ ap (λ l. codes " + " ++ l) (t.3 ∙ ap (λ l. term_text ds iter t.0 ++ l) r.4 ∙ sym (append_assoc (term_text ds iter t.0) (more_text ds iter r.0) rest)),
+          )
 
   -- ---- statements
 
   pub statement_took : (total : ℕ) (bs : List ℕ) (x : Stmt × ℕ) (rest : List ℕ) → statement_at (named ds) iter total bs ≡ Some (x, rest)
       → (s : Statement) × (x ≡ weighed (statement_of s) (1 + (term_elements s.first + terms_elements s.more))) × IsLawfulStatement (length ds) s × (s.place ≡ total - length bs)
-          × (codes "        " ++ bs ≡ statement_text ds iter s ++ rest)
+      × (codes "        " ++ bs ≡ statement_text ds iter s ++ rest)
   unfolding statement_at
   statement_took total bs x rest h =
       let place = total - length bs in
@@ -244,34 +249,35 @@ module _ (ds : List Declaration) (iter : List ℕ) where
       let e2 : s.0.1 ≡ codes ";\n" ++ rest = after_took (codes ";\n") s.0.1 b.0 b.1 ∙ ap (λ l. codes ";\n" ++ l) same.1 in
       let tail : t.0.1 ≡ more_text ds iter more.0 ++ (codes ";\n" ++ rest) = more.4 ∙ ap (λ l. more_text ds iter more.0 ++ l) e2 in
       let middle : e.0.1 ≡ codes " = " ++ (term_text ds iter first.0 ++ (more_text ds iter more.0 ++ (codes ";\n" ++ rest))) = e1 ∙ ap (λ l. codes " = " ++ l) (first.3 ∙ ap (λ l. term_text ds iter first.0 ++ l) tail) in
-      let text : bs ≡ element_text ds iter target.0 ++ (codes " = " ++ (term_text ds iter first.0 ++ (more_text ds iter more.0 ++ (codes ";\n" ++ rest)))) = target.3 ∙ ap (λ l. element_text ds iter target.0 ++ l) middle in
-      (it,
-       sym same.0 ∙ ap (λ p. weighed (stmt.Assign place p.0 (p.1 ∷ []) s.0.0.0) s.0.0.1) target.1 ∙ ap (λ v. weighed (stmt.Assign place target.0.array (subscript target.0.shift ∷ []) v) s.0.0.1) value ∙ ap (weighed (statement_of it)) count,
-       record { target = target.2; first = first.2; more = more.2; few = omega (arith, more.3) },
-       refl,
-       ap (λ l. codes "        " ++ l) text ∙ sym (statement_regroup (element_text ds iter target.0) (term_text ds iter first.0) (more_text ds iter more.0) rest))
+      let text : bs ≡ element_text ds iter target.0 ++ (codes " = " ++ (term_text ds iter first.0 ++ (more_text ds iter more.0 ++ (codes ";\n" ++ rest)))) = target.3 ∙ ap (λ l. element_text ds iter target.0 ++ l) middle in (
+        it,
+        sym same.0 ∙ ap (λ p. weighed (stmt.Assign place p.0 (p.1 ∷ []) s.0.0.0) s.0.0.1) target.1 ∙ ap (λ v. weighed (stmt.Assign place target.0.array (subscript target.0.shift ∷ []) v) s.0.0.1) value ∙ ap (weighed (statement_of it)) count,
+        record { target = target.2; first = first.2; more = more.2; few = omega (arith, more.3) },
+        refl,
+        ap (λ l. codes "        " ++ l) text ∙ sym (statement_regroup (element_text ds iter target.0) (term_text ds iter first.0) (more_text ds iter more.0) rest),
+      )
 
   eight_more : (a : List ℕ) → length (codes "        " ++ a) ≡ length a + 8
   eight_more a = omega (arith, length-append (codes "        ") a)
 
   ended_body : (total left : ℕ) (done : List Stmt) (bs : List ℕ) (x : List Stmt) (rest : List ℕ) → done ≡ x → bs ≡ rest
       → (body : List Statement) × (x ≡ done ++ map statement_of body) × All (IsLawfulStatement (length ds)) body × (element_count body ≤ left)
-          × ArePlaced ds iter (total - length bs) body × (bs ≡ flat_map (statement_text ds iter) body ++ rest)
+      × ArePlaced ds iter (total - length bs) body × (bs ≡ flat_map (statement_text ds iter) body ++ rest)
   ended_body total left done bs x rest e f = ([], sym e ∙ sym (append-nil done), (λ k d lt. let b : ⊥ = omega (arith, lt) in absurd b), omega arith, tt, f)
 
   pub body_took : (total m left : ℕ) (done : List Stmt) (bs : List ℕ) (x : List Stmt) (rest : List ℕ) → body_at (named ds) iter total m left done bs ≡ Some (x, rest) → length bs ≤ total
       → (body : List Statement) × (x ≡ done ++ map statement_of body) × All (IsLawfulStatement (length ds)) body × (element_count body ≤ left)
-          × ArePlaced ds iter (total - length bs) body × (bs ≡ flat_map (statement_text ds iter) body ++ rest)
+      × ArePlaced ds iter (total - length bs) body × (bs ≡ flat_map (statement_text ds iter) body ++ rest)
   unfolding body_at
   body_took total zero left done bs x rest h le = let s = same_read done x bs rest h in ended_body total left done bs x rest s.0 s.1
   body_took total (suc m) left done bs x rest h le = go (λ left done bs g. body_took total m left done bs x rest g) (after (codes "        ") bs) refl h
     where
       go : ((left : ℕ) (done : List Stmt) (bs : List ℕ) → body_at (named ds) iter total m left done bs ≡ Some (x, rest) → length bs ≤ total
-              → (body : List Statement) × (x ≡ done ++ map statement_of body) × All (IsLawfulStatement (length ds)) body × (element_count body ≤ left)
-                  × ArePlaced ds iter (total - length bs) body × (bs ≡ flat_map (statement_text ds iter) body ++ rest))
+          → (body : List Statement) × (x ≡ done ++ map statement_of body) × All (IsLawfulStatement (length ds)) body × (element_count body ≤ left)
+          × ArePlaced ds iter (total - length bs) body × (bs ≡ flat_map (statement_text ds iter) body ++ rest))
           → (o : Option (List ℕ)) → after (codes "        ") bs ≡ o → body_of (body_at (named ds) iter total m) (statement_at (named ds) iter total) o left done bs ≡ Some (x, rest)
           → (body : List Statement) × (x ≡ done ++ map statement_of body) × All (IsLawfulStatement (length ds)) body × (element_count body ≤ left)
-              × ArePlaced ds iter (total - length bs) body × (bs ≡ flat_map (statement_text ds iter) body ++ rest)
+          × ArePlaced ds iter (total - length bs) body × (bs ≡ flat_map (statement_text ds iter) body ++ rest)
       go again None e h = let s = same_read done x bs rest h in ended_body total left done bs x rest s.0 s.1
       go again (Some a) e h =
           let b = bind_some (statement_at (named ds) iter total a) (λ s. if nat_le s.0.1 left then body_at (named ds) iter total m (left - s.0.1) (done ++ s.0.0 ∷ []) s.1 else None) (x, rest) h in
@@ -288,13 +294,14 @@ module _ (ds : List Declaration) (iter : List ℕ) where
           let within = leb-true b.0.0.1 left t.0 in
           let ahead : length bs ≡ length a + 8 = ap length (after_took (codes "        ") bs a e) ∙ eight_more a in
           let place : it.place ≡ (total - length bs) + 8 = omega (arith, s.3, ahead, le) in
-          let next : total - length behind ≡ (total - length bs) + length (statement_text ds iter it) = omega (arith, long, le) in
-          (it ∷ r.0,
-           r.1 ∙ append_assoc done (b.0.0.0 ∷ []) (map statement_of r.0) ∙ ap (λ v. done ++ v ∷ map statement_of r.0) value,
-           All-cons (IsLawfulStatement (length ds)) it r.0 s.2 r.2,
-           omega (arith, r.3, size, within),
-           (place, subst (λ n. ArePlaced ds iter n r.0) next r.4),
-           text ∙ ap (λ l. statement_text ds iter it ++ l) r.5 ∙ sym (append_assoc (statement_text ds iter it) (flat_map (statement_text ds iter) r.0) rest))
+          let next : total - length behind ≡ (total - length bs) + length (statement_text ds iter it) = omega (arith, long, le) in (
+            it ∷ r.0,
+            r.1 ∙ append_assoc done (b.0.0.0 ∷ []) (map statement_of r.0) ∙ ap (λ v. done ++ v ∷ map statement_of r.0) value,
+            All-cons (IsLawfulStatement (length ds)) it r.0 s.2 r.2,
+            omega (arith, r.3, size, within),
+            (place, subst (λ n. ArePlaced ds iter n r.0) next r.4),
+            text ∙ ap (λ l. statement_text ds iter it ++ l) r.5 ∙ sym (append_assoc (statement_text ds iter it) (flat_map (statement_text ds iter) r.0) rest),
+          )
 
 -- ---- small facts of the whole
 
@@ -344,9 +351,12 @@ declaration_took bs d rest h =
     let e1 = after_took (codes "[") n.0.1 a.0 a.1 in
     let e2 = after_took (codes "];\n") s.0.1 b.0 b.1 in
     let text : codes "int " ++ bs ≡ codes "int " ++ (n.0.0 ++ (codes "[" ++ (decimal s.0.0 ++ (codes "];\n" ++ b.0)))) =
-        ap (λ l. codes "int " ++ l) (name.0 ∙ ap (λ l. n.0.0 ++ l) (e1 ∙ ap (λ l. codes "[" ++ l) (size.0 ∙ ap (λ l. decimal s.0.0 ++ l) e2))) in
-    (text ∙ declaration_regroup n.0.0 (decimal s.0.0) b.0 ∙ ap (λ d. declaration_text (record { name = d.0; size = d.1 }) ++ b.0) same.0 ∙ ap (λ l. declaration_text (record { name = d.0; size = d.1 }) ++ l) same.1,
-     subst (λ v. is_name v.0 ≡ true) same.0 name.1, subst (λ v. 1 ≤ v.1) same.0 (leb-true 1 s.0.0 t.0), subst (λ v. v.1 ≤ most_size) same.0 size.1)
+    ap (λ l. codes "int " ++ l) (name.0 ∙ ap (λ l. n.0.0 ++ l) (e1 ∙ ap (λ l. codes "[" ++ l) (size.0 ∙ ap (λ l. decimal s.0.0 ++ l) e2))) in (
+      text ∙ declaration_regroup n.0.0 (decimal s.0.0) b.0 ∙ ap (λ d. declaration_text (record { name = d.0; size = d.1 }) ++ b.0) same.0 ∙ ap (λ l. declaration_text (record { name = d.0; size = d.1 }) ++ l) same.1,
+      subst (λ v. is_name v.0 ≡ true) same.0 name.1,
+      subst (λ v. 1 ≤ v.1) same.0 (leb-true 1 s.0.0 t.0),
+      subst (λ v. v.1 ≤ most_size) same.0 size.1,
+    )
 
 pub record IsDeclared (ds : List Declaration) : Type 0 where
   pub names : All (λ n. IsTrue (is_name n)) (named ds)
@@ -387,7 +397,7 @@ arrays_took zero all ds done bs x rest e g t h = let s = same_read done x bs res
 arrays_took (suc m) all ds done bs x rest e g t h = go (λ ds done bs e g t h. arrays_took m all ds done bs x rest e g t h) (after (codes "int ") bs) refl h
   where
     go : ((ds : List Declaration) (done : List Array) (bs : List ℕ) → done ≡ map array_of ds → IsDeclared ds → all ≡ flat_map declaration_text ds ++ bs → arrays_at m done bs ≡ Some (x, rest)
-            → (es : List Declaration) × (x ≡ map array_of es) × IsDeclared es × (all ≡ flat_map declaration_text es ++ rest))
+        → (es : List Declaration) × (x ≡ map array_of es) × IsDeclared es × (all ≡ flat_map declaration_text es ++ rest))
         → (o : Option (List ℕ)) → after (codes "int ") bs ≡ o → arrays_of (arrays_at m) o done bs ≡ Some (x, rest)
         → (es : List Declaration) × (x ≡ map array_of es) × IsDeclared es × (all ≡ flat_map declaration_text es ++ rest)
     go again None f h = let s = same_read done x bs rest h in (ds, sym s.0 ∙ e, g, t ∙ ap (λ l. flat_map declaration_text ds ++ l) s.1)
@@ -399,7 +409,7 @@ arrays_took (suc m) all ds done bs x rest e g t h = go (λ ds done bs e g t h. a
         let new : list_any (bytes_eq d.name) (named ds) ≡ false = ap (list_any (bytes_eq d.name)) (sym (names_of_arrays ds) ∙ ap names_in (sym e)) ∙ c.0 in
         let text : bs ≡ declaration_text d ++ b.0.1 = after_took (codes "int ") bs a f ∙ k.0 in
         again (ds ++ d ∷ []) (done ++ declared_of b.0.0 ∷ []) b.0.1 (ap (λ l. l ++ declared_of b.0.0 ∷ []) e ∙ sym (arrays_more ds d)) (declared_more ds d g k.1 new (k.2, k.3))
-            (t ∙ ap (λ l. flat_map declaration_text ds ++ l) text ∙ sym (append_assoc (flat_map declaration_text ds) (declaration_text d) b.0.1) ∙ ap (λ l. l ++ b.0.1) (sym (texts_more ds d))) c.1
+        (t ∙ ap (λ l. flat_map declaration_text ds ++ l) text ∙ sym (append_assoc (flat_map declaration_text ds) (declaration_text d) b.0.1) ∙ ap (λ l. l ++ b.0.1) (sym (texts_more ds d))) c.1
 
 -- ---- the function and the header
 
@@ -431,9 +441,11 @@ start_took bs x rest h =
     let e2 = after_took (codes " = ") n.0.1 b.0 b.1 in
     let e3 = after_took (codes "; ") s.0.1 c.0 c.1 in
     let text : bs ≡ codes "    for (int " ++ (n.0.0 ++ (codes " = " ++ (decimal s.0.0 ++ (codes "; " ++ c.0)))) =
-        e1 ∙ ap (λ l. codes "    for (int " ++ l) (name.0 ∙ ap (λ l. n.0.0 ++ l) (e2 ∙ ap (λ l. codes " = " ++ l) (size.0 ∙ ap (λ l. decimal s.0.0 ++ l) e3))) in
-    (text ∙ ap (λ x. codes "    for (int " ++ (x.0 ++ (codes " = " ++ (decimal x.1 ++ (codes "; " ++ c.0))))) same.0 ∙ ap (λ l. codes "    for (int " ++ (x.0 ++ (codes " = " ++ (decimal x.1 ++ (codes "; " ++ l))))) same.1,
-     subst (λ v. is_name v.0 ≡ true) same.0 name.1, subst (λ v. v.1 ≤ most_number) same.0 size.1)
+    e1 ∙ ap (λ l. codes "    for (int " ++ l) (name.0 ∙ ap (λ l. n.0.0 ++ l) (e2 ∙ ap (λ l. codes " = " ++ l) (size.0 ∙ ap (λ l. decimal s.0.0 ++ l) e3))) in (
+      text ∙ ap (λ x. codes "    for (int " ++ (x.0 ++ (codes " = " ++ (decimal x.1 ++ (codes "; " ++ c.0))))) same.0 ∙ ap (λ l. codes "    for (int " ++ (x.0 ++ (codes " = " ++ (decimal x.1 ++ (codes "; " ++ l))))) same.1,
+      subst (λ v. is_name v.0 ≡ true) same.0 name.1,
+      subst (λ v. v.1 ≤ most_number) same.0 size.1,
+    )
 
 limit_took : (iter bs : List ℕ) (x : ℕ) (rest : List ℕ) → limit_at iter bs ≡ Some (x, rest)
     → (bs ≡ iter ++ (codes " < " ++ (decimal x ++ (codes "; " ++ (iter ++ (codes "++) {\n" ++ rest)))))) × (x ≤ most_number)
@@ -453,13 +465,14 @@ limit_took iter bs x rest h =
     let f4 = after_took iter c.0 d.0 d.1 in
     let f5 = after_took (codes "++) {\n") d.0 e.0 e.1 in
     let text : bs ≡ iter ++ (codes " < " ++ (decimal l.0.0 ++ (codes "; " ++ (iter ++ (codes "++) {\n" ++ e.0))))) =
-        f1 ∙ ap (λ l. iter ++ l) (f2 ∙ ap (λ l. codes " < " ++ l) (number.0 ∙ ap (λ k. decimal l.0.0 ++ k) (f3 ∙ ap (λ l. codes "; " ++ l) (f4 ∙ ap (λ l. iter ++ l) f5)))) in
-    (text ∙ ap (λ n. iter ++ (codes " < " ++ (decimal n ++ (codes "; " ++ (iter ++ (codes "++) {\n" ++ e.0)))))) same.0 ∙ ap (λ k. iter ++ (codes " < " ++ (decimal x ++ (codes "; " ++ (iter ++ (codes "++) {\n" ++ k)))))) same.1,
-     subst (λ n. n ≤ most_number) same.0 number.1)
+    f1 ∙ ap (λ l. iter ++ l) (f2 ∙ ap (λ l. codes " < " ++ l) (number.0 ∙ ap (λ k. decimal l.0.0 ++ k) (f3 ∙ ap (λ l. codes "; " ++ l) (f4 ∙ ap (λ l. iter ++ l) f5)))) in (
+      text ∙ ap (λ n. iter ++ (codes " < " ++ (decimal n ++ (codes "; " ++ (iter ++ (codes "++) {\n" ++ e.0)))))) same.0 ∙ ap (λ k. iter ++ (codes " < " ++ (decimal x ++ (codes "; " ++ (iter ++ (codes "++) {\n" ++ k)))))) same.1,
+      subst (λ n. n ≤ most_number) same.0 number.1,
+    )
 
 rest_took : (ds : List Declaration) (iter : List ℕ) (total : ℕ) (bs : List ℕ) (x : List Stmt) → rest_at (named ds) iter total bs ≡ Some x → length bs ≤ total
     → (body : List Statement) × (x ≡ map statement_of body) × All (IsLawfulStatement (length ds)) body × (element_count body ≤ 512)
-        × ArePlaced ds iter (total - length bs) body × (bs ≡ flat_map (statement_text ds iter) body ++ codes "    }\n}\n")
+    × ArePlaced ds iter (total - length bs) body × (bs ≡ flat_map (statement_text ds iter) body ++ codes "    }\n}\n")
 unfolding rest_at
 rest_took ds iter total bs x h le =
     let b = bind_some (body_at (named ds) iter total 512 512 [] bs) (λ b. after (codes "    }\n}\n") b.1 >>= (λ a. ended a >>= (λ e. Some b.0))) x h in
@@ -473,9 +486,11 @@ rest_took ds iter total bs x h le =
 new_parts : (f i : List ℕ) (names : List (List ℕ)) → are_new f i names ≡ true → (f ≢ i) × All (λ n. f ≢ n) names × All (λ n. i ≢ n) names
 new_parts f i names h =
     let a = and_true (not (bytes_eq f i)) (not (list_any (bytes_eq f) names) && not (list_any (bytes_eq i) names)) h in
-    let b = and_true (not (list_any (bytes_eq f) names)) (not (list_any (bytes_eq i) names)) a.1 in
-    (λ e. both_ways (bytes_eq f i) (not-true (bytes_eq f i) a.0) ((bytes_eq-Decides f i).1 e),
-     all_differ f names (not-true (list_any (bytes_eq f) names) b.0), all_differ i names (not-true (list_any (bytes_eq i) names) b.1))
+    let b = and_true (not (list_any (bytes_eq f) names)) (not (list_any (bytes_eq i) names)) a.1 in (
+      λ e. both_ways (bytes_eq f i) (not-true (bytes_eq f i) a.0) ((bytes_eq-Decides f i).1 e),
+      all_differ f names (not-true (list_any (bytes_eq f) names) b.0),
+      all_differ i names (not-true (list_any (bytes_eq i) names) b.1),
+    )
 
 -- ---- the whole
 
@@ -503,10 +518,11 @@ finish ds f iter start limit bs b1 b2 arrays stmts u good fname iname new small 
       names = All-cons (λ n. IsTrue (is_name n)) f (iter ∷ named ds) (true_is (is_name f) fname) (All-cons (λ n. IsTrue (is_name n)) iter (named ds) (true_is (is_name iter) iname) good.names);
       distinct = AllPairs-cons (λ m n. m ≢ n) f (iter ∷ named ds) (All-cons (λ n. f ≢ n) iter (named ds) new.0 new.1) (AllPairs-cons (λ m n. m ≢ n) iter (named ds) new.2 good.distinct);
     } in
-    let places : HasItsPlaces p = record { loop = here; statements = subst (λ n. ArePlaced ds iter n r.0) first r.4 } in
-    (p,
-     record { text = front ∙ ap (λ l. fore ++ l) (header ∙ ap (λ l. head ++ l) r.5); numbers = numbers; names = lawful; places = places },
-     whole ∙ ap (λ l. unit_from l f (loop_from place iter start limit stmts)) declared ∙ ap (λ l. unit_from (map array_of ds) f (loop_from place iter start limit l)) r.1)
+    let places : HasItsPlaces p = record { loop = here; statements = subst (λ n. ArePlaced ds iter n r.0) first r.4 } in (
+      p,
+      record { text = front ∙ ap (λ l. fore ++ l) (header ∙ ap (λ l. head ++ l) r.5); numbers = numbers; names = lawful; places = places },
+      whole ∙ ap (λ l. unit_from l f (loop_from place iter start limit stmts)) declared ∙ ap (λ l. unit_from (map array_of ds) f (loop_from place iter start limit l)) r.1,
+    )
 
 pub unit_took : (bs : List ℕ) (u : tree.Unit) → unit_at bs ≡ Some u → (p : OneLoop) × IsOneLoopText bs p × (u ≡ unit_of p)
 unfolding unit_at all_arrays_at loop_at
@@ -532,6 +548,6 @@ unit_took bs u h =
     let limit = limit_took s.0.0.0 s.0.1 m.0.0 m.0.1 m.1 in
     let iter = s.0.0.0 in
     let front : bs ≡ (flat_map declaration_text ds ++ (codes "void " ++ (f.0.0 ++ codes "(void) {\n"))) ++ f.0.1 =
-        declared.3 ∙ ap (λ l. flat_map declaration_text ds ++ l) function.0 ∙ front_regroup (flat_map declaration_text ds) f.0.0 f.0.1 in
+    declared.3 ∙ ap (λ l. flat_map declaration_text ds ++ l) function.0 ∙ front_regroup (flat_map declaration_text ds) f.0.0 f.0.1 in
     let header = start.0 ∙ ap (λ k. codes "    for (int " ++ (iter ++ (codes " = " ++ (decimal s.0.0.1 ++ (codes "; " ++ k))))) limit.0 ∙ header_regroup iter (decimal s.0.0.1) (decimal m.0.0) m.0.1 in
     finish ds f.0.0 iter s.0.0.1 m.0.0 bs f.0.1 m.0.1 a.0.0 r.0 u good function.1 start.1 (new_parts f.0.0 iter (named ds) n.0) start.2 limit.1 front header declared.1 (sym whole ∙ ap (unit_from a.0.0 f.0.0) (sym built)) r.1

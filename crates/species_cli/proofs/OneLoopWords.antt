@@ -41,6 +41,7 @@ after_is w bs r h = go r (strip_prefix_is Decides-eqb bs w r h)
     none : ((rest : List ℕ) → bs ≢ w ++ rest) → (o : Option (List ℕ)) → after w bs ≡ o → None ≡ o
     none n None e = refl
     none n (Some rest) e = absurd (n rest (after_took w bs rest e))
+
     go : (r : Option (Bor (List ℕ))) → MatchOption r ((rest : List ℕ) → bs ≢ w ++ rest) (λ x. bs ≡ w ++ x.now) → option_copied r ≡ after w bs
     go None n = none n (after w bs) refl
     go (Some x) e = sym (ap (after w) e ∙ after_full w x.now)

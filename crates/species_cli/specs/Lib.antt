@@ -1,4 +1,5 @@
 pub mod Answer
+pub mod Bounds
 pub mod NameTable
 pub mod OneLoopReading
 pub mod OneLoopText

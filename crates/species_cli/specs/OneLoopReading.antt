@@ -17,7 +17,6 @@ use Rattle.species_ast.specs.declared.tree.Unit as tree
 use Rattle.species_reference.specs.OneLoop.{literal, array_of, Declaration, most_size, most_number}
 use Rattle.species_cli.specs.declared.one_loop.ReadRefusal.{ReadRefusal}
 use Rattle.species_cli.specs.declared.one_loop.ReadRefusal.TheVariants as refusal
-
 use denote.Ref.{Bor}
 
 infixl 10 ◌>>=◌
@@ -238,7 +237,7 @@ loop_at names function total bytes =
     start_at bytes >>= (λ s. limit_at s.0.0 s.1 >>= (λ l.
     if are_new function s.0.0 names
     then rest_at names s.0.0 total l.1
-        >>= (λ body. Some (loop_from (total - length bytes + 4) s.0.0 s.0.1 l.0 body))
+    >>= (λ body. Some (loop_from (total - length bytes + 4) s.0.0 s.0.1 l.0 body))
     else None))
 
 unfoldable pub unit_at : List ℕ → Option tree.Unit

@@ -1,5 +1,6 @@
 -- The table of the references of a one-loop program, and what it says of the program.
 use Rattle.std.specs.Prelude.{◌≡◌, ◌↔◌, ℕ, zero, suc, ◌<◌, ℤ, pos, ◌+ℤ◌, ◌-ℤ◌, ◌*ℤ◌, ◌≤ℤ◌, ◌<ℤ◌, negsuc, List, [], ◌∷◌, ◌++◌, Option, Some, None, map, length, codes, decimal, slice_get}
+use Rattle.std.specs.Option.{option_map_or}
 use Rattle.std.specs.Fmt.{signed_decimal}
 use Rattle.std.specs.List.{flat_map}
 use Rattle.species_ast.specs.declared.tree.Unit as unit
@@ -39,10 +40,9 @@ abbrev pub dir_text : Dir → List ℕ
 dir_text dir.Read = codes "read"
 dir_text dir.Write = codes "write"
 
+-- the name of the array of this number
 abbrev pub name_of : List Array → ℕ → List ℕ
-name_of [] k = []
-name_of (a ∷ more) zero = a.name
-name_of (a ∷ more) (suc k) = name_of more k
+name_of arrays number = option_map_or (λ (a : Array). a.name) (slice_get arrays number) []
 
 -- the iterator, then the offset with its sign, if it is not 0
 abbrev pub form_text : List ℕ → ℤ → List ℕ
@@ -50,13 +50,19 @@ form_text iterator (pos zero) = iterator
 form_text iterator (pos (suc n)) = iterator ++ (codes "+" ++ decimal (suc n))
 form_text iterator (negsuc n) = iterator ++ (codes "-" ++ decimal (suc n))
 
--- one line for one reference: its array with the least and the greatest place, and the place itself
+-- the reference's number, its direction and its array
+abbrev pub access_text : List Array → FirstReference → List ℕ
+access_text arrays r = decimal r.number ++ (codes " " ++ (dir_text r.dir ++ (codes " " ++ name_of arrays r.array)))
+
+-- its domain: the least and the greatest place
+abbrev pub domain_text : ℤ → ℤ → List ℕ
+domain_text low high = codes "[" ++ (signed_decimal low ++ (codes ":" ++ (signed_decimal high ++ codes "]")))
+
+-- one line for one reference, whose one element in each turn stands at the form
 abbrev pub line_at : List Array → List ℕ → ℤ → ℤ → FirstReference → List ℕ
 line_at arrays iterator start last r =
-    decimal r.number ++ (codes " " ++ (dir_text r.dir ++ (codes " " ++ (name_of arrays r.array
-        ++ (codes "[" ++ (signed_decimal (start +ℤ r.offset) ++ (codes ":" ++ (signed_decimal (last +ℤ r.offset)
-        ++ (codes "] elements (1) step (1)|element at (" ++ (form_text iterator r.offset
-        ++ codes ") exact\n"))))))))))
+    access_text arrays r ++ (domain_text (start +ℤ r.offset) (last +ℤ r.offset)
+    ++ (codes " elements (1) step (1)|element at (" ++ (form_text iterator r.offset ++ codes ") exact\n")))
 
 abbrev pub line_text : List Array → Loop → FirstReference → List ℕ
 line_text arrays head = line_at arrays (out-Loop head).iter (start_of head) (last_of head)
@@ -64,7 +70,7 @@ line_text arrays head = line_at arrays (out-Loop head).iter (start_of head) (las
 abbrev pub loop_text : List Array → Loop → List ℕ
 loop_text arrays head =
     codes "loop " ++ (decimal (out-Loop head).place ++ (codes "\n"
-        ++ flat_map (line_text arrays head) (references_of head)))
+    ++ flat_map (line_text arrays head) (references_of head)))
 
 abbrev pub statement_table : List Array → Stmt-F Stmt Loop → List ℕ
 statement_table arrays (Stmt-F.For head) = loop_text arrays head
@@ -87,7 +93,7 @@ passes test.Ge v limit = limit ≤ℤ v
 abbrev pub Takes : Loop → ℤ → Type 0
 Takes head v = (turn : ℕ) × (v ≡ start_of head +ℤ (out-Loop head).step *ℤ pos turn)
     × ((earlier : ℕ) → earlier < suc turn
-        → passes (out-Loop head).test (start_of head +ℤ (out-Loop head).step *ℤ pos earlier) (bound_value (out-Loop head).limit))
+    → passes (out-Loop head).test (start_of head +ℤ (out-Loop head).step *ℤ pos earlier) (bound_value (out-Loop head).limit))
 
 -- the place lies in the set that the line prints for the iterator's value v: at the form, exactly
 abbrev pub IsInSet : FirstReference → ℤ → ℤ → Type 0

@@ -2,3 +2,5 @@
 #![tactic(auto)]
 
 mod one_loop;
+mod table;
+mod words;

@@ -4,8 +4,8 @@ ghost use Rattle.species_ast.specs.declared.tree.Expr.TheVariants as expr;
 ghost use Rattle.species_reference.specs.OneLoop.{literal};
 ghost use Rattle.species_cli.specs.OneLoopReading.{Gives, after, sign_at, shift_at, subscript_at, element_at, read_of, begins_with_digit, scaled_at, term_at, sum_at, statement_at, body_at, seen_sign};
 
-use super::names::ArrayNames;
 use super::ReadRefusal;
+use super::names::ArrayNames;
 use super::words::{after, is_digit, read_number, skip, word_len};
 use species_ast::{Binary, Expr, Stmt, Value};
 use sqlite_items::{Boxed, Items};
@@ -231,7 +231,10 @@ fn read_statement<'a>(
     let (target, rest) = read_element(alloc, names, iterator, bytes)?;
     let rest = skip(b" = ", rest)?;
     let (first, rest) = read_term(alloc, names, iterator, rest)?;
-    let first = Sum { value: first.value, elements: 1 + first.elements };
+    let first = Sum {
+        value: first.value,
+        elements: 1 + first.elements,
+    };
     let (sum, rest) = read_sum(alloc, names, iterator, first, rest)?;
     let rest = skip(b";\n", rest)?;
     let mut subs = Items::new(alloc);
@@ -264,7 +267,9 @@ pub(super) fn read_body<'a>(
         match after(b"        ", rest) {
             None => return Ok((body, rest)),
             Some(statement) => {
-                let (statement, elements, more) = read_statement(alloc, names, iterator, total, statement)?;
+                let (statement, elements, more) = read_statement(
+                    alloc, names, iterator, total, statement,
+                )?;
                 body.push(statement)?;
                 if elements > left {
                     return Err(ReadRefusal::NotBuilt);

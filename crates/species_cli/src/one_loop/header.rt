@@ -2,8 +2,8 @@
 ghost use Rattle.std.specs.Prelude.{◌≡◌, ◌≤◌, ◌<◌, ◌+◌, ℕ, [], length, Some, IfOk};
 ghost use Rattle.species_cli.specs.OneLoopReading.{Gives, after, name_at, number_at, declaration_at, declared_of, names_in, arrays_at, all_arrays_at, function_at, start_at, limit_at};
 
-use super::names::ArrayNames;
 use super::ReadRefusal;
+use super::names::ArrayNames;
 use super::words::{after, read_name, read_number, skip};
 use species_ast::{Array, Dims, Kind, Name};
 use sqlite_items::Items;

@@ -28,10 +28,11 @@ loop-i-preserved c =
     let new : c.in_ok-declare-in-Some.field-0 ≡ true = search rules in
     let e = stood c.loop-i.names c.loop-i.arrays c.in_ok-name-in-Some.name.now c.in_ok-declare-in-Some.field-0 false c.in_ok-declare-in-Some.ensures.added c.loop-i.invariant.1 new in
     let one = some_same _ _ c.in_ok-array-in-Some.ensures in
-    let pushed = c.in_ok-push-in-Some.ensures.ok in
-    (rw (c.loop-i.invariant.0, next, c.in_ok-name-in-Some.ensures, e, pushed, ← one) (search rules),
-     rw (pushed, names_more, ← one, ← c.loop-i.invariant.1) (search rules),
-     rw pushed (one_longer _ _ _ c.loop-i.invariant.2))
+    let pushed = c.in_ok-push-in-Some.ensures.ok in (
+      rw (c.loop-i.invariant.0, next, c.in_ok-name-in-Some.ensures, e, pushed, ← one) (search rules),
+      rw (pushed, names_more, ← one, ← c.loop-i.invariant.1) (search rules),
+      rw pushed (one_longer _ _ _ c.loop-i.invariant.2),
+    )
 
 pub returns-clause-value : goal.returns-clause-value
 unfolding all_arrays_at
