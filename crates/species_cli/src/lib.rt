@@ -7,3 +7,6 @@ mod top;
 mod words;
 
 pub use top::species;
+
+#[cfg(test)]
+mod tests;
