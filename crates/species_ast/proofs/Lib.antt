@@ -6,4 +6,5 @@ pub mod Grammar
 pub mod Induction
 mod OperatorExamples
 pub mod RunLaws
+mod ScopeExamples
 pub mod StripLaws
