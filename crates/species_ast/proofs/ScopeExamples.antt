@@ -1,5 +1,5 @@
 -- Small programs and what they become, or why they are refused, by computation.
-use Rattle.std.proofs.Common.{◌≡◌, refl, ℕ, List, [], ◌∷◌, Option, Some, None, Bool, true, false, pos, Ok, Err}
+use Rattle.std.proofs.Common.{◌∙◌, sym, ap, ◌≡◌, refl, ℕ, List, [], ◌∷◌, Option, Some, None, Bool, true, false, pos, Ok, Err}
 use Rattle.std.specs.Prelude.{codes}
 use Prim.Native.String.{String}
 use Rattle.species_ast.specs.Spelling.{Spelling}
@@ -8,7 +8,7 @@ use Rattle.species_ast.specs.Grammar.Declarations.{statement}
 use Rattle.species_ast.specs.declared.tree.Kind.TheVariants as kind
 use Rattle.species_ast.specs.declared.tree.Value.TheVariants as value
 use Rattle.species_ast.specs.declared.tree.Unit.{Unit}
-use Rattle.species_ast.specs.declared.raw.RawExpr.{RawExpr}
+use Rattle.species_ast.specs.declared.raw.RawExpr.{RawExpr, roll-RawExpr, fold-roll-RawExpr}
 use Rattle.species_ast.specs.declared.raw.RawTarget.{RawTarget}
 use Rattle.species_ast.specs.declared.raw.RawTerm.TheVariants as term
 use Rattle.species_ast.specs.declared.raw.RawOp.TheVariants as op
@@ -18,6 +18,13 @@ use Rattle.species_ast.specs.declared.raw.RawWhat.TheVariants as what
 use Rattle.species_ast.specs.declared.raw.RawItem.{RawItem}
 use Rattle.species_ast.specs.declared.raw.RawItem.TheVariants as item
 use Rattle.species_ast.specs.declared.raw.RawUnit.{RawUnit}
+use Rattle.species_ast.specs.Scope.Meanings.{Scope}
+use Rattle.species_ast.specs.Scope.Programs.{first_scope}
+use Rattle.species_ast.specs.Scope.Expressions.{reading}
+use Rattle.species_ast.specs.declared.tree.Expr.TheVariants as expr
+use Rattle.species_ast.specs.declared.raw.RawTerm.{roll-RawTerm, fold-roll-RawTerm}
+use Rattle.species_ast.specs.declared.raw.RawTerm.TheOpen.{RawTerm-F}
+use Rattle.species_ast.specs.declared.raw.RawTarget.{fold-roll-RawTarget}
 use Rattle.species_ast.specs.Scope.Refusals.{Refusal, Finding}
 use Rattle.species_ast.specs.Scope.Conditions.{NestLimits, resolved}
 
@@ -55,3 +62,21 @@ refused u r p = resolved no_limits u ≡ Err (record { refusal = r; place = p })
 -- `void k(void) { A[0] = 1; }`
 unknown : refused (program [] 5 "k" (set 15 "A" (number 17 0 ∷ []) (number 22 1) ∷ [])) Refusal.Unknown 15
 unknown = refl
+
+some_scope : Scope
+some_scope = first_scope []
+
+test_one : reading (first_scope []) (expression 0 (term.Number (value.Int (pos 3)))) ≡ record { expr = expr.Literal (value.Int (pos 3)); names = [] }
+test_one = refl
+
+test_two : reading (first_scope []) (expression 0 (term.Number (value.Int (pos 3)))) ≡ record { expr = expr.Literal (value.Int (pos 3)); names = [] }
+test_two = simp (fold-roll-RawExpr, fold-roll-RawTerm, fold-roll-RawTarget, term.rolls-Number) refl
+
+test_three : reading (first_scope []) (roll-RawExpr (record { place = 0; what = roll-RawTerm (RawTerm-F.Number (value.Int (pos 3))) })) ≡ record { expr = expr.Literal (value.Int (pos 3)); names = [] }
+test_three = simp (fold-roll-RawExpr, fold-roll-RawTerm, fold-roll-RawTarget) refl
+
+test_four : reading (first_scope []) (roll-RawExpr (record { place = 0; what = roll-RawTerm (RawTerm-F.Number (value.Int (pos 3))) })) ≡ record { expr = expr.Literal (value.Int (pos 3)); names = [] }
+test_four = refl
+
+test_five : reading (first_scope []) (expression 0 (term.Number (value.Int (pos 3)))) ≡ record { expr = expr.Literal (value.Int (pos 3)); names = [] }
+test_five = fold-roll-RawExpr _ _ _ _ _ _ _ ∙ sym (ap _ (term.rolls-Number _)) ∙ fold-roll-RawTerm _ _ _ _ _ _ _

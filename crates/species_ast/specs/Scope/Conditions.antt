@@ -195,6 +195,10 @@ abbrev pub unless_refused : Option Finding → Unit → Result Unit Finding
 unless_refused (Some f) u = Err f
 unless_refused None u = Ok u
 
+-- the unit of a program, or the refusal that is reported
+abbrev pub answer_of : NestLimits → Program → Result Unit Finding
+answer_of limits p = unless_refused (refusal_of limits p) p.unit
+
 -- The unit of a lawful program, and of any other the refusal that is reported.
 abbrev pub resolved : NestLimits → RawUnit → Result Unit Finding
-resolved limits u = unless_refused (refusal_of limits (program_of u)) (program_of u).unit
+resolved limits u = answer_of limits (program_of u)

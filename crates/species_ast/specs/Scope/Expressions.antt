@@ -81,9 +81,9 @@ abbrev pub target_at : Scope → RawTarget-F Reading Reading Target → Target
 target_at s t = record { name = t.name; means = meaning_of s t.name; subs = exprs_of t.subs; names = names_of t.subs }
 
 -- What an expression becomes in a scope, and the names in it.
-abbrev pub reading : Scope → RawExpr → Reading
-reading s = fold-RawExpr Reading Reading Target (term_at s) expr_at (target_at s)
+abbrev pub reading : RawExpr → Scope → Reading
+reading e s = fold-RawExpr Reading Reading Target (term_at s) expr_at (target_at s) e
 
 -- What a target means in a scope, and the names in its subscripts.
-abbrev pub target_of : Scope → RawTarget → Target
-target_of s = fold-RawTarget Reading Reading Target (term_at s) expr_at (target_at s)
+abbrev pub target_of : RawTarget → Scope → Target
+target_of t s = fold-RawTarget Reading Reading Target (term_at s) expr_at (target_at s) t

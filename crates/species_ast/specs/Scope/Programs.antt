@@ -13,8 +13,8 @@ use Rattle.species_ast.specs.declared.raw.RawUnit.{RawUnit}
 use Rattle.species_ast.specs.Grammar.Expressions.{place_of}
 use Rattle.species_ast.specs.Scope.Forms.{constant_of}
 use Rattle.species_ast.specs.Scope.Meanings.{Meaning, Scope, declared, Role, Declared, Iterates, Occurrence, occurrence}
-use Rattle.species_ast.specs.Scope.Expressions.{reading, names_of}
-use Rattle.species_ast.specs.Scope.Statements.{LoopSite, Piece, in_order, stmt_piece}
+use Rattle.species_ast.specs.Scope.Expressions.{Reading, reading, names_of}
+use Rattle.species_ast.specs.Scope.Statements.{LoopSite, Walk, in_order, stmt_piece}
 
 -- ---- arrays
 
@@ -34,14 +34,10 @@ pub record Globals : Type 0 where
   pub names : List Occurrence
   pub next : Scope
 
--- the header of an `#include`, and the arrays of a declaration with their kind
+-- the header of an `#include`
 abbrev pub header_of : RawItem → Option (List ℕ)
 header_of (item.Include header) = Some header.text
 header_of (item.Global k arrays) = None
-
-abbrev pub arrays_of : RawItem → List (Kind × RawArray)
-arrays_of (item.Include header) = []
-arrays_of (item.Global k arrays) = map (λ a. (k, a)) arrays
 
 -- a size that is constant and not below 0; no lawful program has another
 abbrev pub extent : Option ℤ → ℕ
@@ -49,19 +45,27 @@ extent (Some (pos n)) = n
 extent (Some (negsuc n)) = 0
 extent None = 0
 
-abbrev pub size_in : Scope → RawExpr → Size
-size_in s e = record { place = place_of e; number = constant_of (reading s e).expr }
+-- an array: its kind, its name, its sizes, and what each size becomes
+pub record ArrayParts : Type 0 where
+  pub kind : Kind
+  pub name : Spelling
+  pub sizes : List (ℕ × (Scope → Reading))
+
+abbrev pub parts_of : Kind → RawArray → ArrayParts
+parts_of k a = record { kind = k; name = a.name; sizes = map (λ e. (place_of e, reading e)) a.sizes }
+
+abbrev pub size_in : Scope → ℕ × (Scope → Reading) → Size
+size_in s x = record { place = x.0; number = constant_of (x.1 s).expr }
 
 -- the arrays, of which the first has the number n; each is in scope from the end of its declarator
-abbrev pub globals_from : ℕ → List (Kind × RawArray) → Scope → Globals
+abbrev pub globals_from : ℕ → List ArrayParts → Scope → Globals
 globals_from n [] s = record { arrays = []; names = []; next = s }
 globals_from n (a ∷ rest) s =
-    let name = a.1.name in
-    let sizes = map (size_in s) a.1.sizes in
-    let array : Array = record { name = name.text; kind = a.0; dims = map (λ x. extent x.number) sizes } in
-    let names = occurrence Declared s name ∷ names_of (map (reading s) a.1.sizes) in
-    let later = globals_from (suc n) rest (declared name (Meaning.Array n (length a.1.sizes)) s) in
-    record { arrays = record { name = name; array = array; sizes = sizes } ∷ later.arrays; names = names ++ later.names; next = later.next }
+    let sizes = map (size_in s) a.sizes in
+    let array : Array = record { name = a.name.text; kind = a.kind; dims = map (λ x. extent x.number) sizes } in
+    let names = occurrence Declared s a.name ∷ names_of (map (λ x. x.1 s) a.sizes) in
+    let later = globals_from (suc n) rest (declared a.name (Meaning.Array n (length a.sizes)) s) in
+    record { arrays = record { name = a.name; array = array; sizes = sizes } ∷ later.arrays; names = names ++ later.names; next = later.next }
 
 -- ---- the program
 
@@ -76,22 +80,26 @@ pub record Program : Type 0 where
 abbrev pub first_scope : List ℕ → Scope
 first_scope iterators = record { names = []; level = 0; in_nest = false; serials = 0; iterators = iterators }
 
--- a program, where these locals are the iterators of loops
-abbrev pub program_with : List ℕ → RawUnit → Program
-program_with iterators u =
-    let globals = globals_from 0 (flat_map arrays_of u.items) (first_scope iterators) in
-    let body = in_order (map stmt_piece u.body) (declared u.function Meaning.Function globals.next) in
+abbrev pub arrays_of : RawItem → List ArrayParts
+arrays_of (item.Include header) = []
+arrays_of (item.Global k arrays) = map (parts_of k) arrays
+
+-- a program from its headers, its arrays, its function's name and body, where these locals are the iterators of loops
+abbrev pub program_with : List (List ℕ) → List ArrayParts → Spelling → List Walk → List ℕ → Program
+program_with headers arrays name body iterators =
+    let globals = globals_from 0 arrays (first_scope iterators) in
+    let inner = in_order body (declared name Meaning.Function globals.next) in
     record {
       unit = record {
-        includes = filter_map header_of u.items;
+        includes = headers;
         arrays = map (λ a. a.array) globals.arrays;
-        locals = body.notes.locals;
-        function = u.function.text;
-        body = body.statements;
+        locals = inner.notes.locals;
+        function = name.text;
+        body = inner.statements;
       };
       arrays = globals.arrays;
-      names = globals.names ++ (occurrence Declared globals.next u.function ∷ body.notes.names);
-      loops = body.notes.loops;
+      names = globals.names ++ (occurrence Declared globals.next name ∷ inner.notes.names);
+      loops = inner.notes.loops;
     }
 
 -- the local that a loop without `int` has as its iterator
@@ -102,6 +110,10 @@ local_in role means = None
 abbrev pub iterators_of : List Occurrence → List ℕ
 iterators_of names = filter_map (λ o. local_in o.role o.means) names
 
--- What a program becomes. What its names mean is the same whichever locals are the iterators of loops, and tells which are.
+-- What its names mean is the same whichever locals are the iterators of loops, and tells which are.
+abbrev pub settled : (List ℕ → Program) → Program
+settled p = p (iterators_of (p []).names)
+
+-- What a program becomes.
 abbrev pub program_of : RawUnit → Program
-program_of u = program_with (iterators_of (program_with [] u).names) u
+program_of u = settled (program_with (filter_map header_of u.items) (flat_map arrays_of u.items) u.function (map stmt_piece u.body))

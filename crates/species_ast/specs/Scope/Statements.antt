@@ -8,6 +8,7 @@ use Rattle.species_ast.specs.declared.tree.Value.TheVariants.{Int}
 use Rattle.species_ast.specs.declared.tree.Binary.{Binary}
 use Rattle.species_ast.specs.declared.tree.Binary.TheVariants as binary
 use Rattle.species_ast.specs.declared.tree.Schedule.{Schedule}
+use Rattle.species_ast.specs.declared.tree.Test.{Test}
 use Rattle.species_ast.specs.declared.tree.Mark.{Mark}
 use Rattle.species_ast.specs.declared.tree.Mark.TheVariants.{Plain, Parallel}
 use Rattle.species_ast.specs.declared.tree.Expr.{Expr}
@@ -72,12 +73,19 @@ pub record Piece : Type 0 where
   pub notes : Notes
   pub next : Scope
 
--- statements that declare nothing for those behind them
+-- A statement waits for its scope; what it does, and a loop, wait for their place as well.
+abbrev pub Walk : Type 0
+Walk = Scope → Piece
+
+abbrev pub PlacedWalk : Type 0
+PlacedWalk = ℕ → Scope → Piece
+
+-- a piece that is the same in a list and as a body
 abbrev pub piece : List Stmt → Notes → Scope → Piece
 piece ss notes next = record { statements = ss; body = ss; notes = notes; next = next }
 
 -- one piece after another, each in the scope that the one before it leaves
-abbrev pub in_order : List (Scope → Piece) → Scope → Piece
+abbrev pub in_order : List Walk → Walk
 in_order [] s = piece [] no_notes s
 in_order (p ∷ ps) s =
     let first = p s in
@@ -86,15 +94,21 @@ in_order (p ∷ ps) s =
 
 -- ---- declarations
 
--- A local, which is in scope in its own initialiser. One that is the iterator of a loop leaves nothing behind.
-abbrev pub local_piece : Kind → RawLocal → Scope → Piece
-local_piece k l s =
-    let inner = with_local l.name (record { serial = s.serials; kind = k; initialised = is_some l.init }) s in
-    let init = option_map (reading inner) l.init in
-    let names = occurrence Declared s l.name ∷ unwrap_or (option_map (λ r. r.names) init) [] in
+-- a local that its declaration keeps: its number is that of the locals before it that are kept too
+abbrev pub kept_local : Kind → Spelling → Option Reading → Scope → List Stmt
+kept_local k name init s = stmt.Declare name.place (number_of s s.serials) (option_map (λ r. r.expr) init) ∷ []
+
+-- A local is in scope in its own initialiser. One that is the iterator of a loop leaves nothing behind.
+abbrev pub local_piece : Kind → Spelling → Option (Scope → Reading) → Walk
+local_piece k name init s =
+    let inner = with_local name (record { serial = s.serials; kind = k; initialised = is_some init }) s in
+    let value = option_map (λ read. read inner) init in
+    let names = occurrence Declared s name ∷ unwrap_or (option_map (λ r. r.names) value) [] in
     if is_among s.iterators s.serials then piece [] (names_only names) inner
-    else piece (stmt.Declare l.name.place (number_of s s.serials) (option_map (λ r. r.expr) init) ∷ [])
-    (record { locals = record { name = l.name.text; kind = k } ∷ []; names = names; loops = [] }) inner
+    else piece (kept_local k name value s) (record { locals = record { name = name.text; kind = k } ∷ []; names = names; loops = [] }) inner
+
+abbrev pub declarator : Kind → RawLocal → Walk
+declarator k l = local_piece k l.name (option_map reading l.init)
 
 -- ---- changes
 
@@ -147,22 +161,26 @@ operated s p op.Shr t v = combined s p binary.Shr t v
 abbrev pub set_names : Scope → Target → List Occurrence
 set_names s t = occurrence (Set (length t.subs)) s t.name ∷ t.names
 
--- a change of a target alone, and one by a value
-abbrev pub change_alone : Scope → Target → List Stmt → Piece
-change_alone s t ss = piece ss (names_only (set_names s t)) s
+-- a change of a target by a value, and one of a target alone
+abbrev pub change_by : (Scope → Target → Expr → List Stmt) → (Scope → Target) → (Scope → Reading) → Walk
+change_by becomes target value s =
+    let t = target s in
+    let v = value s in
+    piece (becomes s t v.expr) (names_only (set_names s t ++ v.names)) s
 
-abbrev pub change_by : Scope → Target → Reading → List Stmt → Piece
-change_by s t v ss = piece ss (names_only (set_names s t ++ v.names)) s
+abbrev pub change_by_one : (Scope → Target → Expr → List Stmt) → (Scope → Target) → Walk
+change_by_one becomes target s = let t = target s in piece (becomes s t one) (names_only (set_names s t)) s
 
-abbrev pub change_piece : ℕ → RawChange → Scope → Piece
-change_piece p (change.Set t o e) s =
-    let target = target_of s t in
-    let value = reading s e in
-    change_by s target value (operated s p o target value.expr)
-change_piece p (change.Up t) s = let target = target_of s t in change_alone s target (increased s p false target one)
-change_piece p (change.UpBefore t) s = let target = target_of s t in change_alone s target (increased s p false target one)
-change_piece p (change.Down t) s = let target = target_of s t in change_alone s target (combined s p binary.Sub target one)
-change_piece p (change.DownBefore t) s = let target = target_of s t in change_alone s target (combined s p binary.Sub target one)
+abbrev pub change_piece : ℕ → RawChange → Walk
+change_piece p (change.Set t o e) = change_by (λ s. operated s p o) (target_of t) (reading e)
+change_piece p (change.Up t) = change_by_one (λ s. increased s p false) (target_of t)
+change_piece p (change.UpBefore t) = change_by_one (λ s. increased s p false) (target_of t)
+change_piece p (change.Down t) = change_by_one (λ s. combined s p binary.Sub) (target_of t)
+change_piece p (change.DownBefore t) = change_by_one (λ s. combined s p binary.Sub) (target_of t)
+
+-- an addition under a pragma that makes it atomic
+abbrev pub atomic_piece : ℕ → (Scope → Target) → (Scope → Reading) → Walk
+atomic_piece p = change_by (λ s. increased s p true)
 
 -- ---- loops
 
@@ -179,15 +197,15 @@ abbrev pub step_one : Spelling → ℤ → StepReading
 step_one i n = record { variables = i ∷ []; names = []; number = Some n }
 
 -- `i -= e` and `i = j - e` go by the negated constant
-abbrev pub step_reading : Scope → RawStep → StepReading
-step_reading s (step.Up i) = step_one i (pos 1)
-step_reading s (step.UpBefore i) = step_one i (pos 1)
-step_reading s (step.Down i) = step_one i (negsuc 0)
-step_reading s (step.DownBefore i) = step_one i (negsuc 0)
-step_reading s (step.AddBy i e) = step_by (i ∷ []) (λ n. n) (reading s e)
-step_reading s (step.SubBy i e) = step_by (i ∷ []) neg_ℤ (reading s e)
-step_reading s (step.SetAdd i j e) = step_by (i ∷ j ∷ []) (λ n. n) (reading s e)
-step_reading s (step.SetSub i j e) = step_by (i ∷ j ∷ []) neg_ℤ (reading s e)
+abbrev pub step_reading : RawStep → Scope → StepReading
+step_reading (step.Up i) s = step_one i (pos 1)
+step_reading (step.UpBefore i) s = step_one i (pos 1)
+step_reading (step.Down i) s = step_one i (negsuc 0)
+step_reading (step.DownBefore i) s = step_one i (negsuc 0)
+step_reading (step.AddBy i e) s = step_by (i ∷ []) (λ n. n) (reading e s)
+step_reading (step.SubBy i e) s = step_by (i ∷ []) neg_ℤ (reading e s)
+step_reading (step.SetAdd i j e) s = step_by (i ∷ j ∷ []) (λ n. n) (reading e s)
+step_reading (step.SetSub i j e) s = step_by (i ∷ j ∷ []) neg_ℤ (reading e s)
 
 abbrev pub line_of : Spelling → Line
 line_of l = record { text = l.text; place = l.place }
@@ -202,14 +220,23 @@ iterator_role true = Declared
 iterator_role false = Iterates
 
 -- what a loop becomes, from its header and its body
--- A statement waits for its scope, and what it does and a loop for their place as well.
-abbrev pub Walk : Type 0
-Walk = Scope → Piece
+-- A loop's pragmas and header, and its body.
+pub record Parts : Type 0 where
+  pub line : Option Spelling
+  pub parallel : Option (ℕ × Schedule)
+  pub typed : Bool
+  pub iter : Spelling
+  pub start : Scope → Reading
+  pub start_place : ℕ
+  pub tested : Spelling
+  pub test : Test
+  pub limit : Scope → Reading
+  pub limit_place : ℕ
+  pub step : Scope → StepReading
+  pub body : Walk
 
-abbrev pub PlacedWalk : Type 0
-PlacedWalk = ℕ → Scope → Piece
-
-abbrev pub loop_of : RawLoop-F PlacedWalk PlacedWalk Walk → ℕ → Reading → Reading → StepReading → List Stmt → Loop
+-- what a loop becomes
+abbrev pub loop_of : Parts → ℕ → Reading → Reading → StepReading → List Stmt → Loop
 loop_of l p start limit by body = roll-Loop (record {
   place = p;
   iter = l.iter.text;
@@ -227,12 +254,12 @@ abbrev pub is_one : Spelling → List Spelling → Bool
 is_one iter names = list_all (λ n. bytes_eq n.text iter.text) names
 
 -- A loop is a scope. Its start stands outside of it; limit, step and body stand inside.
-abbrev pub loop_at : RawLoop-F PlacedWalk PlacedWalk Walk → ℕ → Scope → Piece
-loop_at l p s =
+abbrev pub loop_piece : Parts → PlacedWalk
+loop_piece l p s =
     let inner = in_loop l.iter (is_parallel (mark_of l.parallel)) s in
-    let start = reading s l.start in
-    let limit = reading inner l.limit in
-    let by = step_reading inner l.step in
+    let start = l.start s in
+    let limit = l.limit inner in
+    let by = l.step inner in
     let body = l.body inner in
     let others = l.tested ∷ by.variables in
     let loop = loop_of l p start limit by body.body in
@@ -242,56 +269,71 @@ loop_at l p s =
       level = s.level;
       in_nest = s.in_nest;
       place = p;
-      start = place_of l.start;
-      limit = place_of l.limit;
+      start = l.start_place;
+      limit = l.limit_place;
       one_variable = is_one l.iter others;
       step = by.number;
     } in
     piece (stmt.For loop ∷ []) (both (record { locals = []; names = names; loops = site ∷ [] }) body.notes) (behind s body.next)
 
--- ---- statements
+-- ---- blocks and branches
 
 -- a statement as the body of a loop or a branch, which is a scope of its own
-abbrev pub branch : (Scope → Piece) → Scope → Piece
+abbrev pub branch : Walk → Walk
 branch p s = let inner = p s in record inner { next = behind s inner.next }
 
 -- what stands behind `else`, if there is one
-abbrev pub else_branch : Option (Scope → Piece) → Scope → Piece
+abbrev pub else_branch : Option Walk → Walk
 else_branch (Some p) s = branch p s
 else_branch None s = piece [] no_notes s
 
-abbrev pub if_piece : ℕ → RawExpr → (Scope → Piece) → Option (Scope → Piece) → Scope → Piece
+abbrev pub if_piece : ℕ → (Scope → Reading) → Walk → Option Walk → Walk
 if_piece p test body otherwise s =
-    let condition = reading s test in
+    let condition = test s in
     let first = branch body s in
     let second = else_branch otherwise first.next in
     piece (stmt.If p condition.expr first.body second.body ∷ []) (both (names_only condition.names) (both first.notes second.notes)) second.next
 
 -- `{ .. }`: as a statement a block, and as a body its list
-abbrev pub block_piece : List (Scope → Piece) → Scope → Piece
+abbrev pub block_piece : List Walk → Walk
 block_piece ss s =
     let inner = in_order ss s in
     record { statements = stmt.Block inner.statements ∷ []; body = inner.statements; notes = inner.notes; next = behind s inner.next }
 
--- an addition under a pragma that makes it atomic
-abbrev pub atomic_piece : ℕ → RawTarget → RawExpr → Scope → Piece
-atomic_piece p t e s =
-    let target = target_of s t in
-    let value = reading s e in
-    change_by s target value (increased s p true target value.expr)
+-- an empty statement leaves nothing behind
+abbrev pub empty_piece : Walk
+empty_piece s = piece [] no_notes s
 
-abbrev pub what_at : RawWhat-F PlacedWalk PlacedWalk Walk → ℕ → Scope → Piece
-what_at (RawWhat-F.Declare k locals) p s = in_order (map (local_piece k) locals) s
-what_at (RawWhat-F.Block ss) p s = block_piece ss s
-what_at RawWhat-F.Empty p s = piece [] no_notes s
-what_at (RawWhat-F.If test body otherwise) p s = if_piece p test body otherwise s
-what_at (RawWhat-F.Loop l) p s = l p s
-what_at (RawWhat-F.Change c) p s = change_piece p c s
-what_at (RawWhat-F.Atomic t e) p s = atomic_piece p t e s
+-- ---- statements
 
-abbrev pub stmt_at : RawStmt-F PlacedWalk PlacedWalk Walk → Scope → Piece
+abbrev pub what_at : RawWhat-F PlacedWalk PlacedWalk Walk → PlacedWalk
+what_at (RawWhat-F.Declare k locals) p = in_order (map (declarator k) locals)
+what_at (RawWhat-F.Block ss) p = block_piece ss
+what_at RawWhat-F.Empty p = empty_piece
+what_at (RawWhat-F.If test body otherwise) p = if_piece p (reading test) body otherwise
+what_at (RawWhat-F.Loop l) p = l p
+what_at (RawWhat-F.Change c) p = change_piece p c
+what_at (RawWhat-F.Atomic t e) p = atomic_piece p (target_of t) (reading e)
+
+abbrev pub loop_at : RawLoop-F PlacedWalk PlacedWalk Walk → PlacedWalk
+loop_at l = loop_piece (record {
+  line = l.line;
+  parallel = l.parallel;
+  typed = l.typed;
+  iter = l.iter;
+  start = reading l.start;
+  start_place = place_of l.start;
+  tested = l.tested;
+  test = l.test;
+  limit = reading l.limit;
+  limit_place = place_of l.limit;
+  step = step_reading l.step;
+  body = l.body;
+})
+
+abbrev pub stmt_at : RawStmt-F PlacedWalk PlacedWalk Walk → Walk
 stmt_at s = s.what s.place
 
 -- What a statement becomes in a scope.
-abbrev pub stmt_piece : RawStmt → Scope → Piece
+abbrev pub stmt_piece : RawStmt → Walk
 stmt_piece = fold-RawStmt PlacedWalk PlacedWalk Walk what_at loop_at stmt_at
