@@ -7,4 +7,5 @@ pub mod Induction
 mod OperatorExamples
 pub mod RunLaws
 mod ScopeExamples
+pub mod ScopeLaws
 pub mod StripLaws

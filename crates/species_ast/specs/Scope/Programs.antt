@@ -45,17 +45,25 @@ extent (Some (pos n)) = n
 extent (Some (negsuc n)) = 0
 extent None = 0
 
--- an array: its kind, its name, its sizes, and what each size becomes
+-- the expression of a size: its place, and what it becomes
+pub record SizeParts : Type 0 where
+  pub place : ℕ
+  pub reads : Scope → Reading
+
+-- an array: its kind, its name and its sizes
 pub record ArrayParts : Type 0 where
   pub kind : Kind
   pub name : Spelling
-  pub sizes : List (ℕ × (Scope → Reading))
+  pub sizes : List SizeParts
+
+abbrev pub size_parts : RawExpr → SizeParts
+size_parts e = record { place = place_of e; reads = reading e }
 
 abbrev pub parts_of : Kind → RawArray → ArrayParts
-parts_of k a = record { kind = k; name = a.name; sizes = map (λ e. (place_of e, reading e)) a.sizes }
+parts_of k a = record { kind = k; name = a.name; sizes = map size_parts a.sizes }
 
-abbrev pub size_in : Scope → ℕ × (Scope → Reading) → Size
-size_in s x = record { place = x.0; number = constant_of (x.1 s).expr }
+abbrev pub size_in : Scope → SizeParts → Size
+size_in s x = record { place = x.place; number = constant_of (x.reads s).expr }
 
 -- the arrays, of which the first has the number n; each is in scope from the end of its declarator
 abbrev pub globals_from : ℕ → List ArrayParts → Scope → Globals
@@ -63,7 +71,7 @@ globals_from n [] s = record { arrays = []; names = []; next = s }
 globals_from n (a ∷ rest) s =
     let sizes = map (size_in s) a.sizes in
     let array : Array = record { name = a.name.text; kind = a.kind; dims = map (λ x. extent x.number) sizes } in
-    let names = occurrence Declared s a.name ∷ names_of (map (λ x. x.1 s) a.sizes) in
+    let names = occurrence Declared s a.name ∷ names_of (map (λ x. x.reads s) a.sizes) in
     let later = globals_from (suc n) rest (declared a.name (Meaning.Array n (length a.sizes)) s) in
     record { arrays = record { name = a.name; array = array; sizes = sizes } ∷ later.arrays; names = names ++ later.names; next = later.next }
 
