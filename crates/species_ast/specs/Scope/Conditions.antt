@@ -1,6 +1,8 @@
 -- The conditions under which a program is refused, each with the places where it holds.
 use Rattle.std.specs.Prelude.{◌≡◌, ℕ, Bool, true, false, ◌&&◌, ◌||◌, not, nat_lt, nat_le, nat_eq, List, [], ◌∷◌, ◌++◌, map, flat_map, length, ℤ, pos, int_lt, unsigned_abs, Option, Some, None, is_some, is_none, Result, Ok, Err}
 use Rattle.std.specs.List.{list_any, list_all}
+use Rattle.species_ast.specs.declared.tree.Kind.{Kind}
+use Rattle.species_ast.specs.declared.tree.Kind.TheVariants as kind
 use Rattle.species_ast.specs.declared.tree.Test.{Test}
 use Rattle.species_ast.specs.declared.tree.Test.TheVariants as test
 use Rattle.species_ast.specs.declared.tree.Array.{Array}
@@ -9,7 +11,6 @@ use Rattle.species_ast.specs.declared.tree.Loop.{out-Loop}
 use Rattle.species_ast.specs.declared.tree.Unit.{Unit}
 use Rattle.species_ast.specs.declared.raw.RawUnit.{RawUnit}
 use Rattle.species_ast.specs.Evaluation.{product}
-use Rattle.species_ast.specs.Operators.{is_signed}
 use Rattle.species_ast.specs.Scope.Forms.{form_of, iterators_in}
 use Rattle.species_ast.specs.Scope.Meanings.{Meaning, is_among, Role, Declared, Taken, Set, Iterates, InHeader, Occurrence}
 use Rattle.species_ast.specs.Scope.Nests.{is_badly_marked}
@@ -50,10 +51,14 @@ is_miscounted_as role means = false
 abbrev pub is_miscounted : Occurrence → Bool
 is_miscounted o = is_miscounted_as o.role (usable o.means)
 
+abbrev pub is_int : Kind → Bool
+is_int kind.Int = true
+is_int kind.Unsigned = false
+
 -- a loop without `int` may have a name as its iterator that is an `int` local without an initialiser, and not already
 -- the iterator of a loop around it
 abbrev pub is_free : Meaning → Bool
-is_free (Meaning.Variable x) = is_signed x.kind && not x.initialised
+is_free (Meaning.Variable x) = is_int x.kind && not x.initialised
 is_free m = false
 
 -- IteratorAssigned: an iterator is set in its loop, or a loop without `int` has a name that is not free
