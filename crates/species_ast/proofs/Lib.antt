@@ -6,4 +6,6 @@ pub mod Grammar
 pub mod Induction
 mod OperatorExamples
 pub mod RunLaws
+mod ScopeExamples
+pub mod ScopeLaws
 pub mod StripLaws
