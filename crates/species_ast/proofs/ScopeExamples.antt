@@ -47,7 +47,8 @@ use Rattle.species_ast.specs.Scope.Expressions.{Reading, Target, reading, target
 use Rattle.species_ast.specs.Scope.Statements.{Walk, StepReading, Parts, step_by, step_one, step_reading, in_order, local_piece, declarator, change_by, change_by_one, change_piece, operated, increased, combined, atomic_piece, if_piece, block_piece, empty_piece, loop_piece, stmt_piece}
 use Rattle.species_ast.specs.Scope.Programs.{SizeParts, size_parts, ArrayParts, parts_of, Program, program_with, settled, program_of, arrays_of, header_of}
 use Rattle.species_ast.specs.Scope.Refusals.{Limit, Refusal, Finding}
-use Rattle.species_ast.specs.Scope.Conditions.{NestLimits, answer_of, resolved}
+use Rattle.species_ast.specs.Scope.Limits.{NestLimits}
+use Rattle.species_ast.specs.Scope.Conditions.{answer_of, resolved}
 use Rattle.species_ast.proofs.Folds.{fold_expr-Literal, fold_expr-Iter, fold_expr-Local, fold_expr-Elem, fold_expr-Unary, fold_expr-Binary, fold_stmt-Assign, fold_stmt-AddTo, fold_stmt-Declare, fold_stmt-SetLocal, fold_stmt-If, fold_stmt-For, fold_stmt-Block, fold_loop}
 use Rattle.species_ast.proofs.ScopeLaws.{reading-Number, reading-Target, reading-Paren, reading-Binary, readings, target_with, target_of-target, stmt_piece-Declare, stmt_piece-Block, stmt_piece-Empty, stmt_piece-If, stmt_piece-IfElse, stmt_piece-Change, stmt_piece-Atomic, stmt_piece-Loop}
 
@@ -356,7 +357,7 @@ program xs f ss = record {
 
 -- limits of ranges and references that nothing passes
 abbrev no_limits : NestLimits
-no_limits = record { hull = λ u. []; bound = λ u. []; references = λ u. [] }
+no_limits = record { hull = λ u. []; bound = λ u. []; references = λ most u. [] }
 
 abbrev answers : KnownProgram → Result Unit Finding → Type 0
 answers u a = resolved no_limits u.raw ≡ a

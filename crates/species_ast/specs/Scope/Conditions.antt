@@ -10,10 +10,10 @@ use Rattle.species_ast.specs.declared.tree.Expr.{Expr}
 use Rattle.species_ast.specs.declared.tree.Loop.{out-Loop}
 use Rattle.species_ast.specs.declared.tree.Unit.{Unit}
 use Rattle.species_ast.specs.declared.raw.RawUnit.{RawUnit}
-use Rattle.species_ast.specs.Evaluation.{product}
 use Rattle.species_ast.specs.Scope.Forms.{form_of, iterators_in}
 use Rattle.species_ast.specs.Scope.Meanings.{Meaning, is_among, Role, Declared, Taken, Set, Iterates, InHeader, Occurrence}
-use Rattle.species_ast.specs.Scope.Nests.{is_badly_marked}
+use Rattle.species_ast.specs.Scope.Limits.{most_loops, most_dimensions, most_step, most_references, has_lawful_sizes, goes, NestLimits}
+use Rattle.species_ast.specs.Scope.Nests.{front_of, is_bad_mark}
 use Rattle.species_ast.specs.Scope.Statements.{LoopSite}
 use Rattle.species_ast.specs.Scope.Programs.{ArraySite, Size, Program, iterators_of, program_of}
 use Rattle.species_ast.specs.Scope.Refusals.{Limit, Refusal, Finding, first_of_groups, refused_at, places_where}
@@ -105,13 +105,6 @@ not_static p =
     ++ (places_where (λ x. not (is_static x.level (out-Loop x.loop).limit)) (λ x. x.limit) p.loops
     ++ flat_map (λ a. places_where (λ x. is_none x.number) (λ x. x.place) a.sizes) p.arrays)
 
--- a step goes in the direction of the test
-abbrev pub goes : Test → ℤ → Bool
-goes test.Lt step = int_lt (pos 0) step
-goes test.Le step = int_lt (pos 0) step
-goes test.Gt step = int_lt step (pos 0)
-goes test.Ge step = int_lt step (pos 0)
-
 abbrev pub is_good_step : Test → Option ℤ → Bool
 is_good_step t (Some n) = goes t n
 is_good_step t None = false
@@ -126,19 +119,6 @@ refused_forms p = refused_at Refusal.NotStatic (not_static p) ++ refused_at Refu
 
 -- ---- limits and marks
 
--- the greatest numbers of loops inside one another, of dimensions and elements of an array, and the greatest size of a step
-abbrev pub most_loops : ℕ
-most_loops = 8
-
-abbrev pub most_dimensions : ℕ
-most_dimensions = 4
-
-abbrev pub most_elements : ℕ
-most_elements = 16777216
-
-abbrev pub most_step : ℕ
-most_step = 65536
-
 -- LimitPassed(Loops): a loop stands inside eight others
 abbrev pub too_deep : Program → List ℕ
 too_deep p = places_where (λ x. nat_le most_loops x.level) (λ x. x.place) p.loops
@@ -146,10 +126,6 @@ too_deep p = places_where (λ x. nat_le most_loops x.level) (λ x. x.place) p.lo
 -- LimitPassed(Dims): at the array's name
 abbrev pub too_many_dimensions : Program → List ℕ
 too_many_dimensions p = places_where (λ a. nat_lt most_dimensions (length a.array.dims)) (λ a. a.name.place) p.arrays
-
--- each size of an array is at least 1, and so is the number of its elements, which is not too great
-abbrev pub has_lawful_sizes : Array → Bool
-has_lawful_sizes a = list_all (nat_le 1) a.dims && nat_le (product a.dims) most_elements
 
 -- LimitPassed(Elements): at the array's name
 abbrev pub too_many_elements : Program → List ℕ
@@ -161,15 +137,8 @@ too_far p = places_where (λ x. nat_lt most_step (unsigned_abs (out-Loop x.loop)
 
 -- BadMark: a parallel mark stands inside a parallel nest or does not fit; at the `for`
 abbrev pub bad_mark : Program → List ℕ
-bad_mark p = places_where (λ x. is_badly_marked x.in_nest x.level x.loop) (λ x. x.place) p.loops
-
--- The limits that speak of the values which bounds take, and of array references: where a unit passes each of them, by the
--- places of its loops. They are defined with ranges and references, and are asked of a unit of which no name, bound or step
--- is refused.
-pub record NestLimits : Type 0 where
-  pub hull : Unit → List ℕ
-  pub bound : Unit → List ℕ
-  pub references : Unit → List ℕ
+bad_mark p =
+    places_where (λ x. is_bad_mark x.in_nest x.level (out-Loop x.loop).mark (front_of x.loop)) (λ x. x.place) p.loops
 
 abbrev pub refused_limits : NestLimits → Program → List Finding
 refused_limits limits p =
@@ -182,7 +151,7 @@ refused_limits limits p =
     ++ refused_at Refusal.BadMark (bad_mark p))))))
 
 abbrev pub refused_references : NestLimits → Program → List Finding
-refused_references limits p = refused_at (Refusal.LimitPassed Limit.References) (limits.references p.unit)
+refused_references limits p = refused_at (Refusal.LimitPassed Limit.References) (limits.references most_references p.unit)
 
 -- ---- the answer
 

@@ -1,11 +1,11 @@
 -- Perfectly nested loops, and the parallel marks on them.
-use Rattle.std.specs.Prelude.{ℕ, ◌+◌, ◌≤◌, Bool, true, false, ◌&&◌, ◌||◌, nat_lt, nat_le, List, [], ◌∷◌, ◌++◌, take, length, flat_map}
+use Rattle.std.specs.Prelude.{ℕ, ◌+◌, Bool, true, false, ◌&&◌, ◌||◌, nat_lt, nat_le, List, [], ◌∷◌, ◌++◌, take, length, flat_map}
 use Rattle.std.specs.List.{list_any}
 use Rattle.species_ast.specs.declared.tree.Expr.{Expr}
 use Rattle.species_ast.specs.declared.tree.Mark.{Mark}
 use Rattle.species_ast.specs.declared.tree.Mark.TheVariants.{Plain, Parallel}
 use Rattle.species_ast.specs.declared.tree.Stmt.{Stmt}
-use Rattle.species_ast.specs.declared.tree.Loop.{Loop, fold-Loop, out-Loop}
+use Rattle.species_ast.specs.declared.tree.Loop.{Loop, fold-Loop}
 use Rattle.species_ast.specs.declared.tree.Stmt.TheOpen.{Stmt-F, Loop-F}
 use Rattle.species_ast.specs.Scope.Forms.{iterators_in}
 
@@ -46,7 +46,6 @@ is_unfit level Plain front = false
 is_unfit level (Parallel depth schedule) front =
     nat_lt (length front) depth || list_any (λ i. nat_le level i && nat_lt i (level + depth)) (named_in (take depth front))
 
--- A loop of this level has a parallel mark inside a parallel nest (true), or one that does not fit.
-abbrev pub is_badly_marked : Bool → ℕ → Loop → Bool
-is_badly_marked inside level l =
-    (inside && is_parallel (out-Loop l).mark) || is_unfit level (out-Loop l).mark (front_of l)
+-- A mark on a loop of this level is a parallel one inside a parallel nest (true), or it does not fit.
+abbrev pub is_bad_mark : Bool → ℕ → Mark → List Bounds → Bool
+is_bad_mark inside level mark front = (inside && is_parallel mark) || is_unfit level mark front
