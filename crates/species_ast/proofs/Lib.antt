@@ -1,3 +1,4 @@
 pub mod AccessLaws
 pub mod RunLaws
-mod Examples
+mod OperatorExamples
+mod RunExamples

@@ -1,5 +1,5 @@
 -- Laws of programs: what each expression and statement does, and how lists and loops are put together.
-use Rattle.std.proofs.Common.{◌≡◌, refl, ap, sym, ◌∙◌, ℕ, zero, suc, ◌+◌, List, [], ◌∷◌, ◌++◌, map, length, Option, Bool, ℤ, arith, if◌then◌else◌, true, false}
+use Rattle.std.proofs.Common.{◌≡◌, refl, ap, sym, ◌∙◌, ℕ, zero, suc, ◌+◌, List, [], ◌∷◌, ◌++◌, map, flat_map, length, Option, Bool, ℤ, arith, if◌then◌else◌, true, false}
 use Rattle.species_ast.specs.declared.tree.Kind.{Kind}
 use Rattle.species_ast.specs.declared.tree.Kind.TheVariants as kind
 use Rattle.species_ast.specs.declared.tree.Value.{Value}
@@ -16,7 +16,7 @@ use Rattle.species_ast.specs.declared.tree.Loop.{Loop, fold-Loop, fold-roll-Loop
 use Rattle.species_ast.specs.Operators.{kind_of, joint, converted, truth, is_true, unary_of, unary_kind, binary_of, binary_kind}
 use Rattle.species_ast.specs.Accesses.{Cells, Tree, Ret, Stop, Read, Write, Add, then_do, Outcome, Done, Undefined, run, Access, accesses}
 use Rattle.species_ast.specs.Evaluation.{Frame, Context, Spot, Sense, sense, sense_at, array_kind, local_kind, iterator, local_of, with_local, known, answered, elements_in, target_of, element_at, site_at}
-use Rattle.species_ast.specs.Run.{Doing, Step, list_of, scope_of, turns, inside, outside, step, step_at, loop_at, loop_of, does_list, does_scope, assignment, adding, declaring, setting, branching, looping, plain, spot, restored, declared_in}
+use Rattle.species_ast.specs.Run.{Doing, Step, list_of, scope_of, turns, inside, outside, step, step_at, loop_at, loop_of, does_list, does_scope, assignment, adding, declaring, setting, branching, looping, plain, spot, locals_at, locals_of, locals_in}
 use Rattle.species_ast.proofs.AccessLaws.{go_on, accesses_on, run-then_do, accesses-then_do, then_do-assoc}
 
 -- ---- what each expression does
@@ -75,7 +75,7 @@ step-SetLocal w place x value =
 
 pub step-If : (w : Context) (place : ℕ) (test : Expr) (body otherwise : List Stmt)
     → step w (s.If place test body otherwise)
-      ≡ plain (λ at. branching (sense w test) (does_scope w body at 0) (does_scope w otherwise at (length (map (step w) body))) (spot place at))
+    ≡ plain (λ at. branching (sense w test) (does_scope w body at 0) (does_scope w otherwise at (length (map (step w) body))) (spot place at))
 step-If w place test body otherwise =
     ap (step w) (sym (s.rolls-If place test body otherwise)) ∙ fold-roll-Stmt Step Doing (step_at w) (loop_at w) (Stmt-F.If place test body otherwise)
 
@@ -89,6 +89,37 @@ step-Block w body = ap (step w) (sym (s.rolls-Block body)) ∙ fold-roll-Stmt St
 pub loop_is : (w : Context) (l : Loop)
     → loop_of w l ≡ (λ at. looping (out-Loop l).test (out-Loop l).step (sense w (out-Loop l).start) (sense w (out-Loop l).limit) (does_scope w (out-Loop l).body at 0) (spot (out-Loop l).place at))
 loop_is w l = fold_out-Loop Step Doing (step_at w) (loop_at w) l
+
+pub loop-roll : (w : Context) (l : Loop-F Stmt Loop) (at : List ℕ) (f : Frame)
+    → loop_of w (roll-Loop l) at f ≡ looping l.test l.step (sense w l.start) (sense w l.limit) (does_scope w l.body at 0) (spot l.place at) f
+loop-roll w l at f = ap (λ d. d at f) (fold-roll-Loop Step Doing (step_at w) (loop_at w) l)
+
+-- ---- the locals that a statement declares at any depth
+
+pub locals-Assign : (place a : ℕ) (subs : List Expr) (value : Expr) → locals_of (s.Assign place a subs value) ≡ []
+locals-Assign place a subs value = ap locals_of (sym (s.rolls-Assign place a subs value)) ∙ fold-roll-Stmt (List ℕ) (List ℕ) locals_at (λ l. flat_map (λ xs. xs) l.body) (Stmt-F.Assign place a subs value)
+
+pub locals-AddTo : (place a : ℕ) (subs : List Expr) (value : Expr) (atomic : Bool) → locals_of (s.AddTo place a subs value atomic) ≡ []
+locals-AddTo place a subs value atomic = ap locals_of (sym (s.rolls-AddTo place a subs value atomic)) ∙ fold-roll-Stmt (List ℕ) (List ℕ) locals_at (λ l. flat_map (λ xs. xs) l.body) (Stmt-F.AddTo place a subs value atomic)
+
+pub locals-Declare : (place x : ℕ) (init : Option Expr) → locals_of (s.Declare place x init) ≡ x ∷ []
+locals-Declare place x init = ap locals_of (sym (s.rolls-Declare place x init)) ∙ fold-roll-Stmt (List ℕ) (List ℕ) locals_at (λ l. flat_map (λ xs. xs) l.body) (Stmt-F.Declare place x init)
+
+pub locals-SetLocal : (place x : ℕ) (value : Expr) → locals_of (s.SetLocal place x value) ≡ []
+locals-SetLocal place x value = ap locals_of (sym (s.rolls-SetLocal place x value)) ∙ fold-roll-Stmt (List ℕ) (List ℕ) locals_at (λ l. flat_map (λ xs. xs) l.body) (Stmt-F.SetLocal place x value)
+
+pub locals-If : (place : ℕ) (test : Expr) (body otherwise : List Stmt) → locals_of (s.If place test body otherwise) ≡ locals_in body ++ locals_in otherwise
+locals-If place test body otherwise = ap locals_of (sym (s.rolls-If place test body otherwise)) ∙ fold-roll-Stmt (List ℕ) (List ℕ) locals_at (λ l. flat_map (λ xs. xs) l.body) (Stmt-F.If place test body otherwise)
+
+pub locals-Block : (body : List Stmt) → locals_of (s.Block body) ≡ locals_in body
+locals-Block body = ap locals_of (sym (s.rolls-Block body)) ∙ fold-roll-Stmt (List ℕ) (List ℕ) locals_at (λ l. flat_map (λ xs. xs) l.body) (Stmt-F.Block body)
+
+pub locals-For : (l : Loop-F Stmt Loop) → locals_of (s.For (roll-Loop l)) ≡ locals_in l.body
+locals-For l =
+    ap locals_of (sym (s.rolls-For (roll-Loop l))) ∙ fold-roll-Stmt (List ℕ) (List ℕ) locals_at (λ l. flat_map (λ xs. xs) l.body) (Stmt-F.For (roll-Loop l))
+    ∙ fold-roll-Loop (List ℕ) (List ℕ) locals_at (λ l. flat_map (λ xs. xs) l.body) l
+
+pub ruleset locals = (locals-Assign, locals-AddTo, locals-Declare, locals-SetLocal, locals-If, locals-Block, locals-For)
 
 -- ---- lists of statements
 
@@ -107,24 +138,24 @@ does_list-append w (x ∷ xs) ys at k f =
     let first = (step w x).does (at ++ k ∷ []) f in
     let same : suc k + length xs ≡ k + suc (length xs) = omega arith in
     let rest : (g : Frame) → does_list w (xs ++ ys) at (suc k) g ≡ then_do (does_list w xs at (suc k) g) (does_list w ys at (k + suc (length xs))) =
-        λ g. does_list-append w xs ys at (suc k) g ∙ ap (λ n. then_do (does_list w xs at (suc k) g) (does_list w ys at n)) same
+    λ g. does_list-append w xs ys at (suc k) g ∙ ap (λ n. then_do (does_list w xs at (suc k) g) (does_list w ys at n)) same
     in
     ap (then_do first) (λ i g. rest g i) ∙ sym (then_do-assoc first (does_list w xs at (suc k)) (does_list w ys at (k + suc (length xs))))
 
 pub run_list-cons : (w : Context) (x : Stmt) (xs : List Stmt) (at : List ℕ) (k : ℕ) (f : Frame) (m : Cells)
     → run (does_list w (x ∷ xs) at k f) m
-      ≡ go_on (run ((step w x).does (at ++ k ∷ []) f) m) (λ g n. run (does_list w xs at (suc k) g) n)
+    ≡ go_on (run ((step w x).does (at ++ k ∷ []) f) m) (λ g n. run (does_list w xs at (suc k) g) n)
 run_list-cons w x xs at k f m = run-then_do ((step w x).does (at ++ k ∷ []) f) (does_list w xs at (suc k)) m
 
 pub run_list-append : (w : Context) (xs ys : List Stmt) (at : List ℕ) (k : ℕ) (f : Frame) (m : Cells)
     → run (does_list w (xs ++ ys) at k f) m
-      ≡ go_on (run (does_list w xs at k f) m) (λ g n. run (does_list w ys at (k + length xs) g) n)
+    ≡ go_on (run (does_list w xs at k f) m) (λ g n. run (does_list w ys at (k + length xs) g) n)
 run_list-append w xs ys at k f m =
     ap (λ t. run t m) (does_list-append w xs ys at k f) ∙ run-then_do (does_list w xs at k f) (does_list w ys at (k + length xs)) m
 
 pub accesses_list-append : (w : Context) (xs ys : List Stmt) (at : List ℕ) (k : ℕ) (f : Frame) (m : Cells)
     → accesses (does_list w (xs ++ ys) at k f) m
-      ≡ accesses (does_list w xs at k f) m ++ accesses_on (run (does_list w xs at k f) m) (λ g n. accesses (does_list w ys at (k + length xs) g) n)
+    ≡ accesses (does_list w xs at k f) m ++ accesses_on (run (does_list w xs at k f) m) (λ g n. accesses (does_list w ys at (k + length xs) g) n)
 accesses_list-append w xs ys at k f m =
     ap (λ t. accesses t m) (does_list-append w xs ys at k f) ∙ accesses-then_do (does_list w xs at k f) (does_list w ys at (k + length xs)) m
 
@@ -149,3 +180,6 @@ run_turns-cons i is body f m = run-then_do (body (inside f i)) (λ g. turns is b
 pub run_turns-append : (is js : List ℤ) (body : Frame → Tree Frame) (f : Frame) (m : Cells)
     → run (turns (is ++ js) body f) m ≡ go_on (run (turns is body f) m) (λ g n. run (turns js body g) n)
 run_turns-append is js body f m = ap (λ t. run t m) (turns-append is js body f) ∙ run-then_do (turns is body f) (turns js body) m
+
+-- the equations of expressions and of statements
+pub ruleset folds = (sense-Literal, sense-Iter, sense-Local, sense-Elem, sense-Unary, sense-Binary, sense-And, sense-Or, sense-Cond, sense-Cast, step-Assign, step-AddTo, step-Declare, step-SetLocal, step-If, step-For, step-Block, loop-roll)

@@ -134,34 +134,34 @@ sense_at w (Expr-F.Iter level) = record { kind = kind.Int; elements = 0; does = 
 sense_at w (Expr-F.Local x) =
     record { kind = local_kind w x; elements = 0; does = λ s n f. known (site_at s n f []) (local_of f x) }
 sense_at w (Expr-F.Elem a subs) = record {
-    kind = array_kind w a;
-    elements = suc (elements_in subs);
-    does = λ s n f. then_do (target_of w a subs s n f) (λ is. Read (site_at s (n + elements_in subs) f is) (element_at w a is) (λ v. Ret v))
+  kind = array_kind w a;
+  elements = suc (elements_in subs);
+  does = λ s n f. then_do (target_of w a subs s n f) (λ is. Read (site_at s (n + elements_in subs) f is) (element_at w a is) (λ v. Ret v));
 }
 sense_at w (Expr-F.Unary op a) = record {
-    kind = unary_kind op a.kind;
-    elements = a.elements;
-    does = λ s n f. then_do (a.does s n f) (λ x. answered (site_at s n f []) (unary_of op x))
+  kind = unary_kind op a.kind;
+  elements = a.elements;
+  does = λ s n f. then_do (a.does s n f) (λ x. answered (site_at s n f []) (unary_of op x));
 }
 sense_at w (Expr-F.Binary op a b) = record {
-    kind = binary_kind op a.kind b.kind;
-    elements = a.elements + b.elements;
-    does = λ s n f. then_do (a.does s n f) (λ x. then_do (b.does s (n + a.elements) f) (λ y. answered (site_at s n f []) (binary_of op x y)))
+  kind = binary_kind op a.kind b.kind;
+  elements = a.elements + b.elements;
+  does = λ s n f. then_do (a.does s n f) (λ x. then_do (b.does s (n + a.elements) f) (λ y. answered (site_at s n f []) (binary_of op x y)));
 }
 sense_at w (Expr-F.And a b) = record {
-    kind = kind.Int;
-    elements = a.elements + b.elements;
-    does = λ s n f. then_do (a.does s n f) (λ x. if is_true x then then_do (b.does s (n + a.elements) f) (λ y. Ret (truth (is_true y))) else Ret (truth false))
+  kind = kind.Int;
+  elements = a.elements + b.elements;
+  does = λ s n f. then_do (a.does s n f) (λ x. if is_true x then then_do (b.does s (n + a.elements) f) (λ y. Ret (truth (is_true y))) else Ret (truth false));
 }
 sense_at w (Expr-F.Or a b) = record {
-    kind = kind.Int;
-    elements = a.elements + b.elements;
-    does = λ s n f. then_do (a.does s n f) (λ x. if is_true x then Ret (truth true) else then_do (b.does s (n + a.elements) f) (λ y. Ret (truth (is_true y))))
+  kind = kind.Int;
+  elements = a.elements + b.elements;
+  does = λ s n f. then_do (a.does s n f) (λ x. if is_true x then Ret (truth true) else then_do (b.does s (n + a.elements) f) (λ y. Ret (truth (is_true y))));
 }
 sense_at w (Expr-F.Cond c a b) = record {
-    kind = joint a.kind b.kind;
-    elements = c.elements + a.elements + b.elements;
-    does = λ s n f. then_do (c.does s n f) (λ x. then_do (if is_true x then a.does s (n + c.elements) f else b.does s (n + c.elements + a.elements) f) (λ v. Ret (converted (joint a.kind b.kind) v)))
+  kind = joint a.kind b.kind;
+  elements = c.elements + a.elements + b.elements;
+  does = λ s n f. then_do (c.does s n f) (λ x. then_do (if is_true x then a.does s (n + c.elements) f else b.does s (n + c.elements + a.elements) f) (λ v. Ret (converted (joint a.kind b.kind) v)));
 }
 sense_at w (Expr-F.Cast k a) =
     record { kind = k; elements = a.elements; does = λ s n f. then_do (a.does s n f) (λ v. Ret (converted k v)) }

@@ -90,14 +90,14 @@ iterator_values test start limit step = counted (turns_in (distance test start l
 abbrev pub looping : Test → ℤ → Sense → Sense → (Frame → Tree Frame) → Spot → Frame → Tree Frame
 looping test step start limit body s f =
     then_do (start.does s 0 f) (λ a. then_do (limit.does s start.elements f) (λ b.
-        turns (iterator_values test (reduced kind.Int (number_of a)) (reduced kind.Int (number_of b)) step) body f))
+    turns (iterator_values test (reduced kind.Int (number_of a)) (reduced kind.Int (number_of b)) step) body f))
 
 -- an assignment to an element: the target's indices, the value, the write
 abbrev pub assignment : Context → ℕ → List Sense → Sense → Spot → Frame → Tree Frame
 assignment w a subs value s f =
     then_do (target_of w a subs s 0 f) (λ is.
-        then_do (value.does s (suc (elements_in subs)) f) (λ v.
-            Write (site_at s (elements_in subs) f is) (element_at w a is) (converted (array_kind w a) v) (Ret f)))
+    then_do (value.does s (suc (elements_in subs)) f) (λ v.
+    Write (site_at s (elements_in subs) f is) (element_at w a is) (converted (array_kind w a) v) (Ret f)))
 
 -- what a declaration's initialiser gives; while it is evaluated the local has no value
 abbrev pub initial : Context → Kind → Spot → Option Expr → Frame → Tree (Option Value)
@@ -108,12 +108,12 @@ initial w k s (Some e) f = then_do ((sense w e).does s 0 f) (λ v. Ret (Some (co
 abbrev pub addition : Context → ℕ → Bool → ℕ → Sense → Spot → List ℕ → Frame → Tree Frame
 addition w a false n value s is f =
     Read (site_at s n f is) (element_at w a is) (λ old.
-        then_do (value.does s (suc n) f) (λ v.
-            then_do (answered (site_at s n f is) (binary_of binary.Add old v)) (λ sum.
-                Write (site_at s n f is) (element_at w a is) (converted (array_kind w a) sum) (Ret f))))
+    then_do (value.does s (suc n) f) (λ v.
+    then_do (answered (site_at s n f is) (binary_of binary.Add old v)) (λ sum.
+    Write (site_at s n f is) (element_at w a is) (converted (array_kind w a) sum) (Ret f))))
 addition w a true n value s is f =
     then_do (value.does s (suc n) f) (λ v.
-        if w.may_add (array_kind w a) then Add (site_at s n f is) (element_at w a is) (converted kind.Unsigned v) (Ret f) else Stop (site_at s n f is) Forbidden)
+    if w.may_add (array_kind w a) then Add (site_at s n f is) (element_at w a is) (converted kind.Unsigned v) (Ret f) else Stop (site_at s n f is) Forbidden)
 
 abbrev pub adding : Context → ℕ → Bool → List Sense → Sense → Spot → Frame → Tree Frame
 adding w a atomic subs value s f = then_do (target_of w a subs s 0 f) (λ is. addition w a atomic (elements_in subs) value s is f)
@@ -122,7 +122,7 @@ adding w a atomic subs value s f = then_do (target_of w a subs s 0 f) (λ is. ad
 abbrev pub setting : Context → ℕ → Sense → Spot → Frame → Tree Frame
 setting w x value s f =
     then_do (value.does s 0 f) (λ v.
-        if w.may_set x then Ret (with_local f x (Some (converted (local_kind w x) v))) else Stop (site_at s value.elements f []) Forbidden)
+    if w.may_set x then Ret (with_local f x (Some (converted (local_kind w x) v))) else Stop (site_at s value.elements f []) Forbidden)
 
 -- a declaration
 abbrev pub declaring : Context → ℕ → Option Expr → Spot → Frame → Tree Frame
@@ -194,8 +194,11 @@ locals_at (Stmt-F.For l) = l
 locals_at (Stmt-F.Block body) = flat_map (λ xs. xs) body
 locals_at s = []
 
+abbrev pub locals_of : Stmt → List ℕ
+locals_of = fold-Stmt (List ℕ) (List ℕ) locals_at (λ l. flat_map (λ xs. xs) l.body)
+
 abbrev pub locals_in : List Stmt → List ℕ
-locals_in ss = flat_map (fold-Stmt (List ℕ) (List ℕ) locals_at (λ l. flat_map (λ xs. xs) l.body)) ss
+locals_in ss = flat_map (λ xs. xs) (map locals_of ss)
 
 -- an iteration sets only locals that its body declares, and adds atomically only to arrays of unsigned kind
 abbrev pub iteration_in : Context → List Stmt → Context
