@@ -1,5 +1,5 @@
 -- That the exact results of products, quotients and remainders fit the words, and what they are.
-use Rattle.std.proofs.Common.{◌≡◌, ap, sym, ◌∙◌, refl, subst, arith, unsigned_abs, ◌+ℤ◌, ◌-ℤ◌, ◌*ℤ◌, ◌^◌, ◌*◌, ◌/◌, ◌%◌, ◌<◌, ◌≤◌, ◌≤ℤ◌, ◌<ℤ◌, pos, negsuc, neg_ℤ, ℕ, zero, suc, ℤ, Bool, true, false, FitsSigned, w64, to_z, of_z, Ok, Err}
+use Rattle.std.proofs.Common.{◌≡◌, ap, sym, ◌∙◌, refl, arith, unsigned_abs, ◌-ℤ◌, ◌*ℤ◌, ◌^◌, ◌/◌, ◌<◌, ◌≤◌, ◌≤ℤ◌, ◌<ℤ◌, pos, negsuc, neg_ℤ, ℕ, zero, suc, ℤ, Bool, true, false, FitsSigned, w64, to_z, of_z, Ok, Err}
 use Rattle.std.proofs.Math.Nat.{div-le_self, mod-eq_of_lt, mod-lt}
 use Rattle.std.specs.Prelude.{int_div, int_rem, if◌then◌else◌}
 use Rattle.std.specs.Ordering.{int_eq}
@@ -8,7 +8,7 @@ use Rattle.species_ast.specs.declared.tree.Kind.{Kind}
 use Rattle.species_ast.specs.declared.tree.Kind.TheVariants as kind
 use Rattle.species_ast.specs.declared.tree.Value.{Value}
 use Rattle.species_ast.specs.declared.trap.Undefined.TheVariants.{Overflow, DivZero}
-use Rattle.species_ast.specs.Operators.{Answer, bits_of, is_signed, number_of, in_kind, fits, residue, bits_in, from_bits, exact_in, quotient, remainder}
+use Rattle.species_ast.specs.Operators.{Answer, is_signed, number_of, in_kind, fits, residue, bits_in, from_bits, exact_in, quotient, remainder}
 use Rattle.species_cint.specs.Ranges.{IsNumber}
 
 -- ---- sizes

@@ -1,5 +1,5 @@
 -- The numbers of a kind as bounds, for what the functions on machine words ask of their arguments.
-use Rattle.std.specs.Prelude.{ℕ, ◌^◌, ◌-◌, ◌<◌, ◌≤◌, Bool, true, false, ℤ, pos, negsuc, ◌≤ℤ◌, ◌<ℤ◌, neg_ℤ, ◌≡◌}
+use Rattle.std.specs.Prelude.{ℕ, ◌^◌, ◌-◌, Bool, true, false, ℤ, pos, ◌≤ℤ◌, ◌<ℤ◌, neg_ℤ, ◌≡◌}
 use Rattle.species_ast.specs.declared.tree.Kind.{Kind}
 use Rattle.species_ast.specs.declared.tree.Binary.{Binary}
 use Rattle.species_ast.specs.Operators.{bits_of, is_signed, is_shift}

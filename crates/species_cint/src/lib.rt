@@ -10,12 +10,14 @@ ghost use Rattle.species_ast.specs.Operators.{bits_of, is_signed, kind_of, numbe
 ghost use Rattle.species_ast.specs.Operators as operators;
 ghost use Rattle.species_cint.specs.Ranges.{IsNumber, IsRightSide};
 
-use species_ast::{Binary, Kind, Unary, Value};
-
 pub use species_ast::Undefined;
+use species_ast::{Binary, Kind, Unary, Value};
 
 /// A word that holds each number of each kind, and the exact sum, difference and quotient of two.
 type Word = i64;
+
+/// The unsigned word of the same width, in which products wrap.
+type Bits = u64;
 
 fn bits(kind: Kind) -> u32
     ensures { result ≡ bits_of kind }
@@ -140,7 +142,7 @@ fn product(kind: Kind, a: Word, b: Word) -> Result<Value, Undefined>
     if signed(kind) {
         exact(kind, a * b)
     } else {
-        let low = (a as u64).wrapping_mul(b as u64) % (modulus(kind) as u64);
+        let low = (a as Bits).wrapping_mul(b as Bits) % (modulus(kind) as Bits);
         Ok(value(kind, low as Word))
     }
 }
@@ -280,3 +282,6 @@ pub fn unary(op: Unary, v: Value) -> Result<Value, Undefined>
         Unary::LogNot => Ok(truth(n == 0)),
     }
 }
+
+#[cfg(test)]
+mod tests;

@@ -1,4 +1,4 @@
-use Rattle.std.proofs.Common.{◌≡◌, ap, sym, ◌∙◌, pos, w64, Ok}
+use Rattle.std.proofs.Common.{ap, sym, ◌∙◌, pos, w64, Ok}
 use Rattle.std.proofs.lemmas.Int.{to_z-of_z}
 use Rattle.std.proofs.lemmas.Nat.{xor_lt, or_lt}
 use Rattle.std.specs.Prelude.{bit_xor, bit_or}

@@ -1,7 +1,6 @@
-use Rattle.std.proofs.Common.{rules, ◌≡◌, ap, sym, ◌∙◌, refl, arith, unsigned_abs, ◌+ℤ◌, ◌-ℤ◌, ◌*ℤ◌, ◌^◌, ◌<◌, ◌≤ℤ◌, ◌<ℤ◌, pos, neg_ℤ, ℕ, ℤ, FitsSigned, w64, to_z, of_z}
-use Rattle.std.proofs.lemmas.Int.{ints, to_z-of_z, quot_is}
-use Rattle.species_ast.specs.Operators.{bits_of, is_signed, in_kind, exact_in, quotient, remainder}
-use Rattle.species_cint.specs.Ranges.{IsNumber}
+use Rattle.std.proofs.Common.{ap, sym, ◌∙◌, w64}
+use Rattle.std.proofs.lemmas.Int.{quot_is}
+use Rattle.species_ast.specs.Operators.{exact_in}
 use Rattle.species_cint.proofs.Words.{quotient_fits, quotient_is}
 use Rattle.species_cint.proofs.quotient.Goals as goal
 
