@@ -1,8 +1,8 @@
-pub mod Folds
-pub mod Induction
-pub mod StripLaws
+pub mod AccessLaws
 pub mod Cutting
 pub mod Examples
+pub mod Folds
 pub mod Grammar
-pub mod AccessLaws
+pub mod Induction
 pub mod RunLaws
+pub mod StripLaws

@@ -6,8 +6,8 @@
 
 mod copies;
 mod memory;
-mod stripping;
 mod raw;
+mod stripping;
 mod text;
 mod text_law;
 mod token;
@@ -16,11 +16,11 @@ mod tree;
 
 pub use copies::{copy, copy_expr, copy_exprs, copy_loop, copy_stmt, copy_stmts};
 pub use memory::OutOfMemory;
-pub use stripping::strip;
 pub use raw::{
     RawArray, RawChange, RawExpr, RawItem, RawLocal, RawLoop, RawName, RawOp, RawStep, RawStmt,
     RawTarget, RawTerm, RawUnary, RawUnit, RawWhat,
 };
+pub use stripping::strip;
 pub use text::{Dims, Includes, LineText, Name};
 pub use text_law::law_text;
 pub use token::{LexRefusal, TokenKind};
