@@ -13,7 +13,7 @@ use Rattle.species_ast.specs.declared.tree.Stmt.{Stmt}
 use Rattle.species_ast.specs.declared.tree.Stmt.TheVariants as s
 use Rattle.species_ast.specs.declared.tree.Loop.{roll-Loop}
 use Rattle.species_ast.specs.declared.trap.Trap.TheVariants as trap
-use Rattle.species_ast.specs.Accesses.{Cells, Direction, Reads, Writes, Adds, Tree, Ret, Stop, Trapped, Outcome, Done, Undefined, run, Access, accesses, acts, Action, ReadOf, WriteOf, AddOf, End, Fault}
+use Rattle.species_ast.specs.Accesses.{Cells, Direction, Reads, Writes, Adds, Tree, Ret, Stop, Trapped, Outcome, Ended, Stopped, run, Access, accesses, acts, Action, ReadOf, WriteOf, AddOf, Done, Fault}
 use Rattle.species_ast.specs.Evaluation.{Context, Frame, Spot, Sense, sense}
 use Rattle.species_ast.specs.Run.{does_list, actions}
 use Rattle.species_ast.proofs.RunLaws.{folds, locals}
@@ -107,10 +107,10 @@ or_decided : (w : Context) → at_7 (sense w (e.Or (lit 3) one_by_zero)) ≡ Ret
 or_decided w = simp folds refl
 
 -- `3 && 1 / 0` and `0 || 1 / 0` do
-and_open : (w : Context) → run (at_7 (sense w (e.And (lit 3) one_by_zero))) zeros ≡ Undefined (Trapped trap.DivZero) 7
+and_open : (w : Context) → run (at_7 (sense w (e.And (lit 3) one_by_zero))) zeros ≡ Stopped (Trapped trap.DivZero) 7
 and_open w = simp folds refl
 
-or_open : (w : Context) → run (at_7 (sense w (e.Or (lit 0) one_by_zero))) zeros ≡ Undefined (Trapped trap.DivZero) 7
+or_open : (w : Context) → run (at_7 (sense w (e.Or (lit 0) one_by_zero))) zeros ≡ Stopped (Trapped trap.DivZero) 7
 or_open w = simp folds refl
 
 -- `3 && 4` and `0 || 4` are 1
@@ -140,10 +140,10 @@ cast_less : (w : Context) → at_7 (sense w (e.Binary op.Lt (e.Literal (minus 1)
 cast_less w = simp folds refl
 
 -- A[4] is past A's size, and A[-1] before it
-past_size : (w : Context) → w ≡ names → run (at_7 (sense w (element_A (lit 4)))) zeros ≡ Undefined (Trapped trap.Index) 7
+past_size : (w : Context) → w ≡ names → run (at_7 (sense w (element_A (lit 4)))) zeros ≡ Stopped (Trapped trap.Index) 7
 past_size w same = simp folds (rw same refl)
 
-before_zero : (w : Context) → w ≡ names → run (at_7 (sense w (element_A (e.Literal (minus 1))))) zeros ≡ Undefined (Trapped trap.Index) 7
+before_zero : (w : Context) → w ≡ names → run (at_7 (sense w (element_A (e.Literal (minus 1))))) zeros ≡ Stopped (Trapped trap.Index) 7
 before_zero w same = simp folds (rw same refl)
 
 -- B[1][2] is the last element of B; B[0][3] is past a row, though not past the array
@@ -151,7 +151,7 @@ last_of_rows : (w : Context) → w ≡ names
     → map brief (accesses (at_7 (sense w (e.Elem 1 (lit 1 ∷ lit 2 ∷ [])))) zeros) ≡ (Reads, 1, 5, int 0) ∷ []
 last_of_rows w same = simp folds (rw same refl)
 
-past_row : (w : Context) → w ≡ names → run (at_7 (sense w (e.Elem 1 (lit 0 ∷ lit 3 ∷ [])))) zeros ≡ Undefined (Trapped trap.Index) 7
+past_row : (w : Context) → w ≡ names → run (at_7 (sense w (e.Elem 1 (lit 0 ∷ lit 3 ∷ [])))) zeros ≡ Stopped (Trapped trap.Index) 7
 past_row w same = simp folds (rw same refl)
 
 -- B[5][A[2]] reads A[2] before any test, and B[5][1 / 0] is a division by 0
@@ -160,45 +160,45 @@ all_before_test : (w : Context) → w ≡ names
 all_before_test w same = simp folds (rw same refl)
 
 test_after_all : (w : Context)
-    → run (at_7 (sense w (e.Elem 1 (lit 5 ∷ one_by_zero ∷ [])))) zeros ≡ Undefined (Trapped trap.DivZero) 7
+    → run (at_7 (sense w (e.Elem 1 (lit 5 ∷ one_by_zero ∷ [])))) zeros ≡ Stopped (Trapped trap.DivZero) 7
 test_after_all w = simp folds refl
 
 -- ---- locals
 
 -- int x; A[0] = x;
 unset : (w : Context) → w ≡ names
-    → ran w (s.Declare 10 0 None ∷ s.Assign 20 0 (lit 0 ∷ []) (e.Local 0) ∷ []) zeros ≡ Undefined (Trapped trap.Unset) 20
+    → ran w (s.Declare 10 0 None ∷ s.Assign 20 0 (lit 0 ∷ []) (e.Local 0) ∷ []) zeros ≡ Stopped (Trapped trap.Unset) 20
 unset w same = simp folds (rw same refl)
 
 -- int x = 1; int x = x; (which no lawful program has, but a loop's body can be as this)
 own_initialiser : (w : Context)
-    → ran w (s.Declare 10 0 (Some (lit 1)) ∷ s.Declare 20 0 (Some (e.Local 0)) ∷ []) zeros ≡ Undefined (Trapped trap.Unset) 20
+    → ran w (s.Declare 10 0 (Some (lit 1)) ∷ s.Declare 20 0 (Some (e.Local 0)) ∷ []) zeros ≡ Stopped (Trapped trap.Unset) 20
 own_initialiser w = simp folds refl
 
 -- int x = 4294967295u; unsigned y = -1; A[0] = x; u[0] = y;
 converted_when_set : (w : Context) → w ≡ names
     → ran w (s.Declare 10 0 (Some (e.Literal (Unsigned 4294967295))) ∷ s.Declare 20 1 (Some (e.Literal (minus 1)))
     ∷ s.Assign 30 0 (lit 0 ∷ []) (e.Local 0) ∷ s.Assign 40 2 (lit 0 ∷ []) (e.Local 1) ∷ []) zeros
-    ≡ Done (record { iters = []; locals = Some (minus 1) ∷ Some (Unsigned 4294967295) ∷ [] })
+    ≡ Ended (record { iters = []; locals = Some (minus 1) ∷ Some (Unsigned 4294967295) ∷ [] })
     (cells (minus 1 ∷ int 0 ∷ int 0 ∷ int 0 ∷ []) (Unsigned 4294967295 ∷ Unsigned 0 ∷ []))
 converted_when_set w same = simp folds (rw same refl)
 
 -- x = 4294967295u;
 converted_when_assigned : (w : Context) → w ≡ names
     → ran w (s.SetLocal 10 0 (e.Literal (Unsigned 4294967295)) ∷ []) zeros
-    ≡ Done (record { iters = []; locals = Some (minus 1) ∷ None ∷ [] }) zeros
+    ≡ Ended (record { iters = []; locals = Some (minus 1) ∷ None ∷ [] }) zeros
 converted_when_assigned w same = simp folds (rw same refl)
 
 -- { int x = 3; } A[0] = x;
 gone_after_scope : (w : Context) → w ≡ names
     → ran w (s.Block (s.Declare 10 0 (Some (lit 3)) ∷ []) ∷ s.Assign 20 0 (lit 0 ∷ []) (e.Local 0) ∷ []) zeros
-    ≡ Undefined (Trapped trap.Unset) 20
+    ≡ Stopped (Trapped trap.Unset) 20
 gone_after_scope w same = simp folds (rw same refl)
 
 -- int x = 1; if (0) x = 2; else x = 3;
 else_branch : (w : Context) → w ≡ names
     → ran w (s.Declare 10 0 (Some (lit 1)) ∷ s.If 20 (lit 0) (s.SetLocal 30 0 (lit 2) ∷ []) (s.SetLocal 40 0 (lit 3) ∷ []) ∷ []) zeros
-    ≡ Done (record { iters = []; locals = Some (int 3) ∷ None ∷ [] }) zeros
+    ≡ Ended (record { iters = []; locals = Some (int 3) ∷ None ∷ [] }) zeros
 else_branch w same = simp folds (rw same refl)
 
 -- ---- loops
@@ -223,7 +223,7 @@ by_two w same = simp folds (rw same refl)
 
 -- for (int i = 2; i < 2; i++) A[i] = 1 / 0;
 no_turns : (w : Context)
-    → ran w (for_loop 10 2 test.Lt 2 (pos 1) (s.Assign 20 0 (iter ∷ []) one_by_zero ∷ []) ∷ []) zeros ≡ Done no_values zeros
+    → ran w (for_loop 10 2 test.Lt 2 (pos 1) (s.Assign 20 0 (iter ∷ []) one_by_zero ∷ []) ∷ []) zeros ≡ Ended no_values zeros
 no_turns w = simp folds refl
 
 -- for (int i = 1; i < 4; i++) A[i] = A[i - 1];
@@ -231,7 +231,7 @@ abbrev carried_on : Stmt
 carried_on = for_loop 20 1 test.Lt 4 (pos 1) (s.Assign 40 0 (iter ∷ []) (element_A (e.Binary op.Sub iter (lit 1))) ∷ [])
 
 carries : (w : Context) → w ≡ names
-    → ran w (carried_on ∷ []) (a_cells (int 5 ∷ int 0 ∷ int 0 ∷ int 0 ∷ [])) ≡ Done no_values (a_cells (int 5 ∷ int 5 ∷ int 5 ∷ int 5 ∷ []))
+    → ran w (carried_on ∷ []) (a_cells (int 5 ∷ int 0 ∷ int 0 ∷ int 0 ∷ [])) ≡ Ended no_values (a_cells (int 5 ∷ int 5 ∷ int 5 ∷ int 5 ∷ []))
 carries w same = simp folds (rw same refl)
 
 carries_by : (w : Context) → w ≡ names
@@ -260,7 +260,7 @@ atomic_sum w same = simp folds (rw same refl)
 
 atomic_sum_ends : (w : Context) → w ≡ names
     → ran w (s.AddTo 10 2 (lit 1 ∷ []) (e.Literal (minus 1)) true ∷ []) (cells (int 0 ∷ []) (Unsigned 0 ∷ Unsigned 7 ∷ []))
-    ≡ Done no_values (cells (int 0 ∷ []) (Unsigned 0 ∷ Unsigned 6 ∷ []))
+    ≡ Ended no_values (cells (int 0 ∷ []) (Unsigned 0 ∷ Unsigned 6 ∷ []))
 atomic_sum_ends w same = simp folds (rw same refl)
 
 -- A[0] += A[1]; reads its target before the value
@@ -271,7 +271,7 @@ target_first w same = simp folds (rw same refl)
 
 -- A[9] = 1 / 0; is an Index, and A[0] = 1 / 0; writes nothing
 index_first : (w : Context) → w ≡ names
-    → ran w (s.Assign 10 0 (lit 9 ∷ []) one_by_zero ∷ []) zeros ≡ Undefined (Trapped trap.Index) 10
+    → ran w (s.Assign 10 0 (lit 9 ∷ []) one_by_zero ∷ []) zeros ≡ Stopped (Trapped trap.Index) 10
 index_first w same = simp folds (rw same refl)
 
 no_write : (w : Context) → w ≡ names → accesses_of w (s.Assign 10 0 (lit 0 ∷ []) one_by_zero ∷ []) zeros ≡ []
@@ -292,7 +292,7 @@ unanswered w same = simp folds (rw same refl)
 
 answered_once : (w : Context) → w ≡ names
     → actions w shift_up one_turn (int 9 ∷ [])
-    ≡ ReadOf (record { array = 0; at = 1 }) ∷ WriteOf (record { array = 0; at = 2 }) (int 9) ∷ End ∷ []
+    ≡ ReadOf (record { array = 0; at = 1 }) ∷ WriteOf (record { array = 0; at = 2 }) (int 9) ∷ Done ∷ []
 answered_once w same = simp folds (rw same refl)
 
 -- x = A[0]; where x is declared outside the nest is a fault after the read
@@ -303,7 +303,7 @@ outer_local w same = simp folds (rw same (simp locals refl))
 -- { int y; y = 3; A[0] = x; } with y inside and x outside
 inner_local : (w : Context) → w ≡ names
     → actions w (s.Declare 10 1 None ∷ s.SetLocal 20 1 (lit 3) ∷ s.Assign 30 0 (lit 0 ∷ []) (e.Local 0) ∷ []) one_turn []
-    ≡ WriteOf (record { array = 0; at = 0 }) (int 1) ∷ End ∷ []
+    ≡ WriteOf (record { array = 0; at = 0 }) (int 1) ∷ Done ∷ []
 inner_local w same = simp folds (rw same (simp locals refl))
 
 -- an atomic addition to A is a fault, and one to u is an action
@@ -311,5 +311,5 @@ atomic_to_int : (w : Context) → w ≡ names → actions w (s.AddTo 10 0 (lit 0
 atomic_to_int w same = simp folds (rw same refl)
 
 atomic_to_unsigned : (w : Context) → w ≡ names
-    → actions w (s.AddTo 10 2 (lit 0 ∷ []) (lit 1) true ∷ []) one_turn [] ≡ AddOf (record { array = 2; at = 0 }) (Unsigned 1) ∷ End ∷ []
+    → actions w (s.AddTo 10 2 (lit 0 ∷ []) (lit 1) true ∷ []) one_turn [] ≡ AddOf (record { array = 2; at = 0 }) (Unsigned 1) ∷ Done ∷ []
 atomic_to_unsigned w same = simp folds (rw same refl)
