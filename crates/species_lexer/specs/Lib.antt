@@ -1,0 +1,3 @@
+pub mod Offset
+pub mod Seen
+pub mod Parts

@@ -1,0 +1,13 @@
+//! Cuts the text of a program into tokens, one at a time and without memory of its own.
+#![tactic(auto)]
+
+mod characters;
+mod comments;
+mod fault;
+mod numbers;
+mod parts;
+mod pragmas;
+mod slices;
+mod words;
+
+pub use species_ast::{LexRefusal, TokenKind};
