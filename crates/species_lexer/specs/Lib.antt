@@ -1,3 +1,5 @@
 pub mod Offset
 pub mod Seen
 pub mod Parts
+pub mod Forms
+pub mod Pieces

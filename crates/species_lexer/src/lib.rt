@@ -3,9 +3,13 @@
 
 mod characters;
 mod comments;
+mod directives;
 mod fault;
+mod form;
 mod numbers;
 mod parts;
+mod piece;
+mod pieces;
 mod pragmas;
 mod slices;
 mod words;
