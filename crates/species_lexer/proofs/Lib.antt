@@ -1,3 +1,4 @@
 pub mod PartLemmas
+pub mod PieceLemmas
 pub mod Runs
 pub mod Digits
