@@ -1,4 +1,5 @@
 pub mod PartLemmas
+pub mod Walk
 pub mod PieceLemmas
 pub mod Runs
 pub mod Digits

@@ -3,3 +3,4 @@ pub mod Seen
 pub mod Parts
 pub mod Forms
 pub mod Pieces
+pub mod Cursor
