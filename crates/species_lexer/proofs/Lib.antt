@@ -1,5 +1,9 @@
 pub mod PartLemmas
 pub mod Walk
+pub mod Plain
+pub mod Streams
+pub mod Searches
+pub mod Stops
 pub mod PieceLemmas
 pub mod Runs
 pub mod Digits

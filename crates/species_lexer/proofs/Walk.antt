@@ -37,6 +37,7 @@ over_join bytes all k m n is_head b (Define i name (Ok v)) next e = go (over byt
   where
     d : Definition
     d = record { name = name; literal = v }
+
     go : (o : Option Before) → over bytes (i - 1) k false ≡ o → with_definition d o ≡ Some b → with_definition d (over bytes (i - 1) m false) ≡ join b (over (drop k bytes) 0 n b.is_head)
     go None is f = cc
     go (Some c) is f =

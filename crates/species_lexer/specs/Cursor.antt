@@ -45,3 +45,9 @@ stream_at text at =
 pub record IsAt (text : List ℕ) (at : ℕ) (is_head : Bool) : Type 0 where
   pub ends : over text 0 at true ≡ Some (before_at text at)
   pub head : (before_at text at).is_head ≡ is_head
+
+-- what holds of a cursor
+pub record IsCursor (text : List ℕ) (at : ℕ) (is_head : Bool) : Type 0 where
+  pub short : length text ≤ 4194304
+  pub within : at ≤ length text
+  pub reached : IsAt text at is_head

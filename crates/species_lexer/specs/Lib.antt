@@ -4,3 +4,5 @@ pub mod Parts
 pub mod Forms
 pub mod Pieces
 pub mod Cursor
+pub mod Tokens
+pub mod Found

@@ -11,7 +11,12 @@ mod parts;
 mod piece;
 mod pieces;
 mod pragmas;
+mod scan;
 mod slices;
+mod token;
+mod tokens;
 mod words;
 
 pub use species_ast::{LexRefusal, TokenKind};
+pub use token::Token;
+pub use tokens::Tokens;
