@@ -2,6 +2,7 @@ pub mod PartLemmas
 pub mod Walk
 pub mod Plain
 pub mod Streams
+pub mod Answered
 pub mod Searches
 pub mod Stops
 pub mod PieceLemmas

@@ -141,26 +141,25 @@ fn kind_before(text: &[u8], at: usize, word: &[u8], kind: TokenKind) -> TokenKin
     }
 }
 
-/// The token that stands at a stop, and the place behind it.
+/// The token that is a piece at a place, and the place behind it.
 fn token_at<'a>(
     text: &'a [u8],
     at: usize,
-    piece: Option<Piece<'a>>,
+    piece: Piece<'a>,
 ) -> Result<Option<(Token<'a>, usize)>, LexRefusal>
     requires short { length text.now ≤ 4194304 }
     requires within { at ≤ length text.now }
-    requires piece { option_map seen_piece piece ≡ piece_at (before_at text.now at).is_head (drop at text.now) }
-    requires fits { IfSome piece (λ p. Fits p (drop at text.now)) }
-    requires solid { IsSolid piece }
+    requires piece { Some (seen_piece piece) ≡ piece_at (before_at text.now at).is_head (drop at text.now) }
+    requires fits { Fits piece (drop at text.now) }
+    requires solid { IsSolid (Some piece) }
     requires reached { over text.now 0 at true ≡ Some (before_at text.now at) }
     ensures { AnswersAt text.entry.now at result }
 {
     let place = at as u32;
     match piece {
-        None => Ok(None),
-        Some(Piece::Space(_)) => Ok(None),
-        Some(Piece::Refused(fault)) => Err(fault.at(place)),
-        Some(Piece::Lexeme(n, word, kind)) => {
+        Piece::Space(_) => Ok(None),
+        Piece::Refused(fault) => Err(fault.at(place)),
+        Piece::Lexeme(n, word, kind) => {
             let token = Token {
                 place,
                 text: word,
@@ -168,7 +167,7 @@ fn token_at<'a>(
             };
             Ok(Some((token, at + n)))
         }
-        Some(Piece::Define(n, name, value)) => {
+        Piece::Define(n, name, value) => {
             if literal_before(text, at, name).is_some() {
                 return Err(LexRefusal::BadByte(place));
             }
@@ -199,5 +198,8 @@ pub(crate) fn next_token<'a>(
     ensures { AnswersAt text.entry.now at result }
 {
     let stop = past_spaces(text, at, is_head);
-    token_at(text, stop.at, stop.piece)
+    match stop.piece {
+        None => Ok(None),
+        Some(piece) => token_at(text, stop.at, piece),
+    }
 }
