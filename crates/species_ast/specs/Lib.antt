@@ -1,3 +1,12 @@
+pub mod Accesses
+pub mod Evaluation
+pub mod Grammar
 pub mod Line
-pub mod Token
+pub mod Marks
+pub mod Names
+pub mod Operators
+pub mod Run
+pub mod Spelling
+pub mod Strip
 pub mod Text
+pub mod Token

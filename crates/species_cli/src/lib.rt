@@ -1,0 +1,9 @@
+//! The commands of the compiler: bytes in, bytes out, and a status.
+#![tactic(auto)]
+
+mod one_loop;
+mod table;
+mod top;
+mod words;
+
+pub use top::species;

@@ -1,0 +1,3 @@
+pub mod Reader
+pub mod Lawful
+pub mod Whole
