@@ -1,7 +1,7 @@
 -- More depth changes no answer, and enough of it is enough.
 use Rattle.std.proofs.Common.{◌≡◌, ◌∙◌, ap, sym, refl, subst, ℕ, zero, suc, ◌+◌, ◌<◌, ◌≤◌, List, [], ◌∷◌, length, Option, Some, None, Bool, true, false, arith, length-append, inl, inr}
 use Rattle.std.specs.Prelude.{if◌then◌else◌}
-use Rattle.species_grammar.specs.Reader.{Answer, Reader, ◌>>=◌, Word, is_of, starts, said, word, nothing, both, mapped, choose, skip, ends, maybe, maybe_word, cons_of, many, until, joined, level}
+use Rattle.species_grammar.specs.Reader.{Answer, Reader, ◌>>=◌, Word, is_of, starts, said, one, word, nothing, both, mapped, choose, skip, ends, maybe, maybe_word, cons_of, many, until, joined, level}
 use Rattle.species_grammar.specs.Lawful.{Spelled, Before, Lawful, Less, Under, Enough, Takes}
 use Rattle.species_grammar.proofs.Laws.{Reads, bind_read, same_rest}
 
@@ -110,17 +110,17 @@ choose_enough c r q n h k ts lt d = go (starts c ts) d
 pub nothing_enough : {Tok A : Type 0} (x : A) (n : ℕ) → Enough {Tok = Tok} (nothing x) n
 nothing_enough x n ts lt d = cc
 
-pub word_enough : {Tok A : Type 0} (w : Word Tok A) (n : ℕ) → Enough (word w) n
-word_enough w n [] lt d = cc
-word_enough {Tok} {A} w n (u ∷ ts) lt d = go (w.says u) d
+pub one_enough : {Tok A : Type 0} (says : Tok → Option A) (n : ℕ) → Enough (one says) n
+one_enough says n [] lt d = cc
+one_enough {Tok} {A} says n (u ∷ ts) lt d = go (says u) d
   where
     go : (o : Option A) → said o ts (u ∷ ts) ≡ Answer.shallow → ⊥
     go None e = cc
     go (Some x) e = cc
 
-pub word_takes : {Tok A : Type 0} (w : Word Tok A) → Takes (word w) 1
-word_takes w [] x rest d = cc
-word_takes {Tok} {A} w (u ∷ ts) x rest d = go (w.says u) d
+pub one_takes : {Tok A : Type 0} (says : Tok → Option A) → Takes (one says) 1
+one_takes says [] x rest d = cc
+one_takes {Tok} {A} says (u ∷ ts) x rest d = go (says u) d
   where
     go : (o : Option A) → said o ts (u ∷ ts) ≡ Answer.read x rest → 1 + length rest ≤ length (u ∷ ts)
     go None e = cc
@@ -151,16 +151,16 @@ pub takes_none : {Tok A : Type 0} (r : Reader Tok A) (s f : Before Tok A) (v : S
 takes_none r s f v l = takes_of r s f v 0 l (λ x front h. omega arith)
 
 pub skip_enough : {Tok A B : Type 0} (w : Word Tok A) (r : Reader Tok B) (n : ℕ) → Enough r n → Enough (skip w r) (suc n)
-skip_enough w r n h = let l : suc n ≤ 1 + n = omega arith in mapped_enough (λ p. p.1) _ (suc n) (both_enough (word w) r 1 (suc n) n (word_takes w) (word_enough w (suc n)) h l)
+skip_enough w r n h = let l : suc n ≤ 1 + n = omega arith in mapped_enough (λ p. p.1) _ (suc n) (both_enough (word w) r 1 (suc n) n (one_takes w.says) (one_enough w.says (suc n)) h l)
 
 pub ends_enough : {Tok A B : Type 0} (r : Reader Tok B) (w : Word Tok A) (n : ℕ) → Takes r 0 → Enough r n → Enough (ends r w) n
-ends_enough r w n k h = let l : n ≤ 0 + n = omega arith in mapped_enough (λ p. p.0) _ n (both_enough r (word w) 0 n n k h (word_enough w n) l)
+ends_enough r w n k h = let l : n ≤ 0 + n = omega arith in mapped_enough (λ p. p.0) _ n (both_enough r (word w) 0 n n k h (one_enough w.says n) l)
 
 pub maybe_enough : {Tok A B : Type 0} (w : Word Tok A) (r : Reader Tok B) (n : ℕ) → Enough r n → Enough (maybe w r) (suc n)
 maybe_enough w r n h = choose_enough (is_of w) _ _ (suc n) (mapped_enough Some _ (suc n) (skip_enough w r n h)) (nothing_enough None (suc n))
 
 pub maybe_word_enough : {Tok A : Type 0} (w : Word Tok A) (n : ℕ) → Enough (maybe_word w) n
-maybe_word_enough w n = choose_enough (is_of w) _ _ n (mapped_enough Some _ n (word_enough w n)) (nothing_enough None n)
+maybe_word_enough w n = choose_enough (is_of w) _ _ n (mapped_enough Some _ n (one_enough w.says n)) (nothing_enough None n)
 
 -- a list of things of at least one token each
 pub many_enough : {Tok A : Type 0} (m : ℕ) (c : Tok → Bool) (r : Reader Tok A) → Takes r 1 → Enough r m → Enough (many m c r) m
