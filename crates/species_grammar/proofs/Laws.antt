@@ -1,7 +1,7 @@
 -- The laws of the readers that the combinators make.
 use Rattle.std.proofs.Common.{◌≡◌, ◌∙◌, ap, sym, refl, subst, ℕ, zero, suc, ◌<◌, List, [], ◌∷◌, ◌++◌, length, Option, Some, None, Bool, true, false, arith, append_assoc, inl, inr}
 use Rattle.std.specs.Prelude.{if◌then◌else◌, is_some}
-use Rattle.species_grammar.specs.Reader.{Answer, Reader, ◌>>=◌, Word, is_of, starts, said, one, word, nothing, both, mapped, choose, skip, ends, maybe, maybe_word, cons_of, many, until}
+use Rattle.species_grammar.specs.Reader.{Answer, Reader, ◌>>=◌, Word, is_of, starts, said, one, word, nothing, both, mapped, choose, skip, ends, maybe, maybe_word, cons_of, too_shallow, many, until}
 use Rattle.species_grammar.specs.Lawful.{Spelled, Before, SameFirst, IsWord, Took, Failed, Lawful, plain, nothing_spelled, one_spelled, word_spelled, both_before, both_spelled, mapped_before, mapped_spelled, choose_before, choose_spelled, skip_before, skip_spelled, ends_before, ends_spelled, maybe_before, maybe_spelled, maybe_word_before, maybe_word_spelled, Short, many_before, many_spelled, until_before, until_spelled}
 
 -- ---- answers
@@ -149,6 +149,19 @@ recast r s f s' f' v v' l ss ff vv sv = record {
 pub recast_plain : {Tok A : Type 0} (r : Reader Tok A) (s f f' : Before Tok A) (v v' : Spelled Tok A) → Lawful r s f v
     → ((x : A) (front rest : List Tok) → f' x front rest → f x front rest) → ((x : A) (front : List Tok) → v x front → v' x front) → Lawful r (plain v') f' v'
 recast_plain r s f f' v v' l ff vv = recast r s f (plain v') f' v v' l (λ x front rest h. vv x front (l.weak x front rest h)) ff vv (λ x front rest h. h)
+
+-- where no depth is left nothing is read
+pub shallow_lawful : {Tok A : Type 0} (s f : Before Tok A) (v : Spelled Tok A) (x : A) (text : List Tok) → v x text → ((y : A) (front rest : List Tok) → s y front rest → v y front)
+    → ((y : A) (front rest : List Tok) → f y front rest → ⊥) → Lawful too_shallow s f v
+shallow_lawful s f v x text d weak bad = record {
+  took = λ ts y rest h. cc;
+  failed = λ ts back h. cc;
+  full = λ y front rest h. absurd (bad y front rest h);
+  weak = weak;
+  some = x;
+  some_text = text;
+  some_spelled = d;
+}
 
 -- ---- mapped
 

@@ -2,7 +2,7 @@
 use Rattle.std.proofs.Common.{◌≡◌, ◌∙◌, ap, sym, refl, subst, ℕ, suc, ◌+◌, ◌<◌, List, [], ◌∷◌, ◌++◌, length, arith, append_assoc, append-nil, inl, inr}
 use Rattle.species_grammar.specs.Reader.{Answer, Reader, ◌>>=◌}
 use Rattle.species_grammar.specs.Lawful.{Spelled, Before, SameFirst, Lawful, Less, Under}
-use Rattle.species_grammar.specs.Whole.{ended, whole, Viable, StopsBefore, Decides}
+use Rattle.species_grammar.specs.Whole.{ended, whole, Viable, StopsBefore, DecidesGrammar}
 use Rattle.species_grammar.proofs.Laws.{Reads, bind_read, Stops, bind_stuck, same_value, same_rest}
 use Rattle.species_grammar.proofs.Depth.{grow}
 
@@ -104,5 +104,5 @@ module _ {Tok A : Type 0} (at : ℕ → Reader Tok A) (s : Before Tok A) (f : �
       go (Stops.first d) = place_stuck n ts back d
       go (Stops.second x us o d) = place_read n ts back x us o d
 
-  pub decides : Decides at v
+  pub decides : DecidesGrammar at v
   decides = record { sound = sound; complete = complete; unique = unique; place = place }

@@ -1,0 +1,193 @@
+-- The readers of expressions are lawful.
+use Rattle.std.proofs.Common.{◌≡◌, ◌∙◌, ap, sym, refl, subst, ℕ, zero, suc, ◌+◌, ◌<◌, ◌≤◌, List, [], ◌∷◌, ◌++◌, length, Option, Some, None, Bool, true, false, arith, length-append, append_assoc, append-nil, inl, inr}
+use Rattle.std.specs.Prelude.{◌⊎◌, ◌&&◌, ◌||◌, is_some, nat_eq, nat_le, if◌then◌else◌}
+use Rattle.std.proofs.lemmas.Bool.{eqb-true, eq-eqb, leb-true, le-leb}
+use Prim.Native.String.{String}
+use Rattle.species_grammar.specs.Reader.{Reader, Word, is_of, starts, one, word, both, mapped, choose, skip, ends, maybe, maybe_word, cons_of, too_shallow, many, level}
+use Rattle.species_grammar.specs.Lawful.{Spelled, Before, IsWord, Lawful, plain, one_spelled, word_spelled, both_before, both_spelled, mapped_before, mapped_spelled, choose_before, choose_spelled, skip_before, skip_spelled, ends_before, ends_spelled, maybe_before, maybe_spelled, maybe_word_before, maybe_word_spelled, Short, many_before, many_spelled, LeftSpelled}
+use Rattle.species_grammar.proofs.Laws.{recast_plain, both_lawful, mapped_lawful, one_lawful, word_lawful, choose_lawful, skip_lawful, ends_lawful, maybe_lawful, maybe_word_lawful, many_lawful, shallow_lawful, its_own}
+use Rattle.species_grammar.proofs.Levels.{level_lawful}
+use Rattle.species_ast.specs.Token.{Token}
+use Rattle.species_ast.specs.Spelling.{Spelling}
+use Rattle.species_ast.specs.Grammar.Words.{punctuator, keyword, name, number}
+use Rattle.species_ast.specs.Grammar.Expressions.{TypeSpecifier, Operation, level_of, binary_sign, unary_sign, operation, expression, place_of, target, Expression, Subscripts, Target}
+use Rattle.species_ast.specs.declared.tree.Kind.{Kind}
+use Rattle.species_ast.specs.declared.tree.Kind.TheVariants as kind
+use Rattle.species_ast.specs.declared.tree.Value.{Value}
+use Rattle.species_ast.specs.declared.tree.Value.TheVariants as value
+use Rattle.species_ast.specs.declared.tree.Binary.TheVariants as binary
+use Rattle.species_ast.specs.declared.raw.RawUnary.{RawUnary}
+use Rattle.species_ast.specs.declared.raw.RawExpr.{RawExpr}
+use Rattle.species_ast.specs.declared.raw.RawTerm.{RawTerm}
+use Rattle.species_ast.specs.declared.raw.RawTerm.TheVariants as term
+use Rattle.species_ast.specs.declared.raw.RawTarget.{RawTarget}
+use Rattle.species_parser.specs.Words.{when, the_mark, the_keyword, unary_operators, binary_operators, of_level, operators_at, names, numbers, is_mark, is_the_keyword, is_type, of_least_level, goes_on}
+use Rattle.species_parser.specs.Reading.{of_kind, unsigned_of, type_reader, number_of, element_of, unary_of, cast_of, opened_of, operation_of, choice_of, subscript_reader, subscripts_reader, opened_reader, operand_reader, level_reader, product_of, binary_reader, choice_reader, operand_at, expression_at, product_at, subscripts_at, target_of, target_at}
+use Rattle.species_parser.proofs.Words.{mark_is_word, keyword_is_word, unary_is_word, binary_is_word, operator_is, operator_own, name_is_word, number_is_word}
+
+-- ---- types
+
+abbrev pub TypeSpelled : Spelled Token (ℕ × Kind)
+TypeSpelled p ts = TypeSpecifier p.0 p.1 ts
+
+abbrev pub TypeBefore : Before Token (ℕ × Kind)
+TypeBefore p front rest = TypeSpecifier p.0 p.1 front × (starts (is_the_keyword "int") rest ≡ false)
+
+abbrev TypeV : Spelled Token (ℕ × Kind)
+TypeV = choose_spelled (mapped_spelled (of_kind kind.Int) (word_spelled (the_keyword "int"))) (mapped_spelled unsigned_of (both_spelled (word_spelled (the_keyword "unsigned")) (maybe_word_spelled (the_keyword "int"))))
+
+abbrev TypeF : Before Token (ℕ × Kind)
+TypeF = choose_before (is_the_keyword "int") (mapped_before (of_kind kind.Int) (plain (word_spelled (the_keyword "int"))))
+    (mapped_before unsigned_of (both_before (plain (word_spelled (the_keyword "unsigned"))) (maybe_word_before (the_keyword "int"))))
+
+type_viable : (x : ℕ × Kind) (front : List Token) → TypeV x front → TypeSpelled x front
+type_viable x front (inl (p, e, i)) = subst (λ z. TypeSpelled z front) e (subst (TypeSpecifier p kind.Int) (sym i) (TypeSpecifier.int p))
+type_viable x front (inr ((p, None), e, (a, b, i, j, k))) =
+    subst (λ z. TypeSpelled z front) e (subst (TypeSpecifier p kind.Unsigned) (sym (i ∙ ap (λ z. z ++ b) j ∙ ap (λ z. keyword p "unsigned" ∷ z) k)) (TypeSpecifier.unsigned p))
+type_viable x front (inr ((p, Some q), e, (a, b, i, j, k))) =
+    subst (λ z. TypeSpelled z front) e (subst (TypeSpecifier p kind.Unsigned) (sym (i ∙ ap (λ z. z ++ b) j ∙ ap (λ z. keyword p "unsigned" ∷ z) k)) (TypeSpecifier.unsigned_int p q))
+
+type_full : (p : ℕ) (k : Kind) (front rest : List Token) → TypeSpecifier p k front → starts (is_the_keyword "int") rest ≡ false → TypeF (p, k) front rest
+type_full p k front rest (TypeSpecifier.int q) h = inl (refl, (q, refl, refl))
+type_full p k front rest (TypeSpecifier.unsigned q) h = inr (refl, ((q, None), refl, (keyword q "unsigned" ∷ [], [], refl, refl, (refl, h))))
+type_full p k front rest (TypeSpecifier.unsigned_int q r) h = inr (refl, ((q, Some r), refl, (keyword q "unsigned" ∷ [], keyword r "int" ∷ [], refl, refl, refl)))
+
+pub type_lawful : Lawful type_reader (plain TypeSpelled) TypeBefore TypeSpelled
+type_lawful =
+    recast_plain type_reader _ _ TypeBefore _ TypeSpelled
+        (choose_lawful (is_the_keyword "int") (mapped (of_kind kind.Int) (word (the_keyword "int"))) (mapped unsigned_of (both (word (the_keyword "unsigned")) (maybe_word (the_keyword "int")))) _ _ _ _ _ _
+          (mapped_lawful (of_kind kind.Int) (word (the_keyword "int")) _ _ _ (word_lawful (the_keyword "int") (keyword_is_word "int")))
+          (mapped_lawful unsigned_of (both (word (the_keyword "unsigned")) (maybe_word (the_keyword "int"))) _ _ _
+            (both_lawful (word (the_keyword "unsigned")) (maybe_word (the_keyword "int")) _ _ _ _ _ _ (word_lawful (the_keyword "unsigned") (keyword_is_word "unsigned")) (maybe_word_lawful (the_keyword "int") (keyword_is_word "int")))))
+        (λ x front rest h. type_full x.0 x.1 front rest h.0 h.1)
+        type_viable
+
+pub some_type : (p : ℕ) (k : Kind) (ks rest : List Token) → TypeSpecifier p k ks → starts is_type (ks ++ rest) ≡ true
+some_type p k ks rest (TypeSpecifier.int q) = refl
+some_type p k ks rest (TypeSpecifier.unsigned q) = refl
+some_type p k ks rest (TypeSpecifier.unsigned_int q r) = refl
+
+-- ---- what may follow an expression
+
+abbrev pub ExprBefore : ℕ → ℕ → Before Token RawExpr
+ExprBefore m n x front rest = Expression n x front × (length front < m) × (starts (goes_on n) rest ≡ false)
+
+never : (b : Bool) → (b ≡ true → ⊥) → b ≡ false
+never true h = absurd (h refl)
+never false h = refl
+
+clash : true ≡ false → ⊥
+clash h = cc
+
+or_false : (a b : Bool) → (a || b) ≡ false → (a ≡ false) × (b ≡ false)
+or_false true b h = absurd (clash h)
+or_false false b h = (refl, h)
+
+or_both : (a b : Bool) → a ≡ false → b ≡ false → (a || b) ≡ false
+or_both a b e f = ap (λ z. z || b) e ∙ f
+
+not_zero : (n : ℕ) → nat_eq (suc n) 0 ≡ false
+not_zero n = never (nat_eq (suc n) 0) (λ e. let i = eqb-true (suc n) 0 e in omega (arith, i))
+
+higher_least : (n : ℕ) (o : Option (ℕ × Operation)) → of_least_level n o ≡ false → of_least_level (suc n) o ≡ false
+higher_least n None h = refl
+higher_least n (Some p) h = never (nat_le (suc n) (level_of p.1)) (λ e. let le = leb-true (suc n) (level_of p.1) e in let l : n ≤ level_of p.1 = omega (arith, le) in clash (sym (le-leb n (level_of p.1) l) ∙ h))
+
+-- where nothing of a level goes on, nothing of a higher one does, and no operator of it stands there
+goes_higher : (n : ℕ) (t : Token) → goes_on n t ≡ false → goes_on (suc n) t ≡ false
+goes_higher n t h =
+    let e = or_false (is_mark "[" t) _ h in
+    let f = or_false (of_least_level n (binary_operators.says t)) _ e.1 in
+    or_both (is_mark "[" t) _ e.0 (or_both (of_least_level (suc n) (binary_operators.says t)) _ (higher_least n (binary_operators.says t) f.0) (ap (λ z. z && is_mark "?" t) (not_zero n)))
+
+not_of_level : (n : ℕ) (o : Option (ℕ × Operation)) → of_least_level n o ≡ false → is_some (of_level n o) ≡ false
+not_of_level n None h = refl
+not_of_level n (Some p) h = go (nat_eq (level_of p.1) n) refl
+  where
+    go : (b : Bool) → nat_eq (level_of p.1) n ≡ b → is_some (when b p) ≡ false
+    go true e =
+        let i = eqb-true (level_of p.1) n e in
+        let l : n ≤ level_of p.1 = omega (arith, i) in
+        absurd (clash (sym (le-leb n (level_of p.1) l) ∙ h))
+    go false e = refl
+
+no_operator : (n : ℕ) (t : Token) → goes_on n t ≡ false → is_some (operators_at n t) ≡ false
+no_operator n t h = not_of_level n (binary_operators.says t) (or_false (of_least_level n (binary_operators.says t)) _ (or_false (is_mark "[" t) _ h).1).0
+
+then_higher : (n : ℕ) (rest : List Token) → starts (goes_on n) rest ≡ false → starts (goes_on (suc n)) rest ≡ false
+then_higher n [] h = refl
+then_higher n (t ∷ ts) h = goes_higher n t h
+
+then_no_operator : (n : ℕ) (rest : List Token) → starts (goes_on n) rest ≡ false → starts (λ t. is_some (operators_at n t)) rest ≡ false
+then_no_operator n [] h = refl
+then_no_operator n (t ∷ ts) h = no_operator n t h
+
+then_no_bracket : (n : ℕ) (rest : List Token) → starts (goes_on n) rest ≡ false → starts (is_mark "[") rest ≡ false
+then_no_bracket n [] h = refl
+then_no_bracket n (t ∷ ts) h = (or_false (is_mark "[" t) _ h).0
+
+then_no_question : (rest : List Token) → starts (goes_on 0) rest ≡ false → starts (is_mark "?") rest ≡ false
+then_no_question [] h = refl
+then_no_question (t ∷ ts) h = (or_false (of_least_level 0 (binary_operators.says t)) _ (or_false (is_mark "[" t) _ h).1).1
+
+-- an operator of a level does not go on with an operand of a higher one
+is_some_in : {A : Type 0} (o : Option A) → is_some o ≡ true → (x : A) × (o ≡ Some x)
+is_some_in (Some x) h = (x, refl)
+is_some_in None h = absurd (clash (sym h))
+
+none_some : {A : Type 0} (x : A) → None ≡ Some x → ⊥
+none_some x h = cc
+
+operator_no_bracket : (t : Token) (o : ℕ × Operation) → binary_operators.says t ≡ Some o → is_mark "[" t ≡ false
+operator_no_bracket t o h =
+    never (is_mark "[" t) (λ e.
+      let k = is_some_in ((the_mark "[").says t) e in
+      let i = (mark_is_word "[").is t k.0 k.1 in
+      none_some o (ap binary_operators.says (sym i) ∙ h))
+
+operator_stops : (n : ℕ) (t : Token) (o : ℕ × Operation) → binary_operators.says t ≡ Some o → level_of o.1 ≡ n → goes_on (suc n) t ≡ false
+operator_stops n t o h l =
+    or_both (is_mark "[" t) _ (operator_no_bracket t o h)
+      (or_both (of_least_level (suc n) (binary_operators.says t)) _
+        (ap (of_least_level (suc n)) h ∙ never (nat_le (suc n) (level_of o.1)) (λ e. let le = leb-true (suc n) (level_of o.1) e in omega (arith, le, l)))
+        (ap (λ z. z && is_mark "?" t) (not_zero n)))
+
+-- ---- levels
+
+level_to : (n : ℕ) (x : RawExpr) (ts : List Token) → LeftSpelled operation_of (Expression (suc n)) (one_spelled (operators_at n)) x ts → Expression n x ts
+level_to n x ts (LeftSpelled.one y us d) = Expression.higher n y us d
+level_to n x ts (LeftSpelled.more y z o us os ws d (t, i, h) e) =
+    let k = operator_is n t o h in
+    let left : Expression (level_of o.1) y us = subst (λ l. Expression l y us) (sym k.1) (level_to n y us d) in
+    let right : Expression (suc (level_of o.1)) z ws = subst (λ l. Expression (suc l) z ws) (sym k.1) e in
+    let whole = subst (λ l. Expression l (operation_of y o z) (us ++ (punctuator o.0 (binary_sign o.1) ∷ ws))) k.1 (Expression.binary_operation o.0 o.1 y z us ws left right) in
+    subst (Expression n (operation_of y o z)) (ap (λ q. us ++ q) (ap (λ q. q ∷ ws) (sym k.0) ∙ ap (λ q. q ++ ws) (sym i))) whole
+
+level_from : (n : ℕ) (x : RawExpr) (ts : List Token) → Expression n x ts → 1 ≤ n → n ≤ 10 → LeftSpelled operation_of (Expression (suc n)) (one_spelled (operators_at n)) x ts
+level_from n x ts (Expression.conditional p q c y z cs ys zs d e f) lo hi = let bad : ⊥ = omega (arith, lo) in absurd bad
+level_from n x ts (Expression.binary_operation p o y z ys zs d e) lo hi =
+    LeftSpelled.more y z (p, o) ys (punctuator p (binary_sign o) ∷ []) zs (level_from (level_of o) y ys d lo hi) (punctuator p (binary_sign o), refl, operator_own p o) e
+level_from n x ts (Expression.unary_operation p o y ys d) lo hi = let bad : ⊥ = omega (arith, hi) in absurd bad
+level_from n x ts (Expression.cast p q r k y ks ys kd d) lo hi = let bad : ⊥ = omega (arith, hi) in absurd bad
+level_from n x ts (Expression.constant m v) lo hi = let bad : ⊥ = omega (arith, hi) in absurd bad
+level_from n x ts (Expression.element m subs us d) lo hi = let bad : ⊥ = omega (arith, hi) in absurd bad
+level_from n x ts (Expression.paren p q y ys d) lo hi = let bad : ⊥ = omega (arith, hi) in absurd bad
+level_from n x ts (Expression.higher m y ys d) lo hi = LeftSpelled.one y ys d
+
+-- any operator of the level
+some_operator : (n : ℕ) → 1 ≤ n → n ≤ 10 → (t : Token) × (o : ℕ × Operation) × (operators_at n t ≡ Some o)
+some_operator zero lo hi = let bad : ⊥ = omega (arith, lo) in absurd bad
+some_operator (suc zero) lo hi = let o = Operation.logical_or in (punctuator 0 (binary_sign o), (0, o), refl)
+some_operator (suc (suc zero)) lo hi = let o = Operation.logical_and in (punctuator 0 (binary_sign o), (0, o), refl)
+some_operator (suc (suc (suc zero))) lo hi = let o = Operation.strict binary.BitOr in (punctuator 0 (binary_sign o), (0, o), refl)
+some_operator (suc (suc (suc (suc zero)))) lo hi = let o = Operation.strict binary.BitXor in (punctuator 0 (binary_sign o), (0, o), refl)
+some_operator (suc (suc (suc (suc (suc zero))))) lo hi = let o = Operation.strict binary.BitAnd in (punctuator 0 (binary_sign o), (0, o), refl)
+some_operator (suc (suc (suc (suc (suc (suc zero)))))) lo hi = let o = Operation.strict binary.Eq in (punctuator 0 (binary_sign o), (0, o), refl)
+some_operator (suc (suc (suc (suc (suc (suc (suc zero))))))) lo hi = let o = Operation.strict binary.Lt in (punctuator 0 (binary_sign o), (0, o), refl)
+some_operator (suc (suc (suc (suc (suc (suc (suc (suc zero)))))))) lo hi = let o = Operation.strict binary.Shl in (punctuator 0 (binary_sign o), (0, o), refl)
+some_operator (suc (suc (suc (suc (suc (suc (suc (suc (suc zero))))))))) lo hi = let o = Operation.strict binary.Add in (punctuator 0 (binary_sign o), (0, o), refl)
+some_operator (suc (suc (suc (suc (suc (suc (suc (suc (suc (suc zero)))))))))) lo hi = let o = Operation.strict binary.Mul in (punctuator 0 (binary_sign o), (0, o), refl)
+some_operator (suc (suc (suc (suc (suc (suc (suc (suc (suc (suc (suc n))))))))))) lo hi = let bad : ⊥ = omega (arith, hi) in absurd bad
+
+abbrev pub ExprLaw : ℕ → ℕ → Reader Token RawExpr → Type 0
+ExprLaw m n r = Lawful r (plain (Expression n)) (ExprBefore m n) (Expression n)
