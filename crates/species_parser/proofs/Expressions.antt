@@ -23,7 +23,7 @@ use Rattle.species_ast.specs.declared.raw.RawTerm.TheVariants as term
 use Rattle.species_ast.specs.declared.raw.RawTarget.{RawTarget}
 use Rattle.species_parser.specs.Words.{when, the_mark, the_keyword, unary_operators, binary_operators, of_level, operators_at, names, numbers, is_mark, is_the_keyword, is_type, of_least_level, goes_on}
 use Rattle.species_parser.specs.Reading.{of_kind, unsigned_of, type_reader, number_of, element_of, unary_of, cast_of, opened_of, operation_of, choice_of, subscript_reader, subscripts_reader, opened_reader, operand_reader, level_reader, product_of, binary_reader, choice_reader, operand_at, expression_at, product_at, subscripts_at, target_of, target_at}
-use Rattle.species_parser.proofs.Words.{mark_is_word, keyword_is_word, unary_is_word, binary_is_word, operator_is, operator_own, name_is_word, number_is_word}
+use Rattle.species_parser.proofs.Words.{mark_is_word, keyword_is_word, binary_is_word, operator_is, operator_own, operator_says}
 
 -- ---- types
 
@@ -72,11 +72,11 @@ some_type p k ks rest (TypeSpecifier.unsigned_int q r) = refl
 abbrev pub ExprBefore : ℕ → ℕ → Before Token RawExpr
 ExprBefore m n x front rest = Expression n x front × (length front < m) × (starts (goes_on n) rest ≡ false)
 
-never : (b : Bool) → (b ≡ true → ⊥) → b ≡ false
+pub never : (b : Bool) → (b ≡ true → ⊥) → b ≡ false
 never true h = absurd (h refl)
 never false h = refl
 
-clash : true ≡ false → ⊥
+pub clash : true ≡ false → ⊥
 clash h = cc
 
 or_false : (a b : Bool) → (a || b) ≡ false → (a ≡ false) × (b ≡ false)
@@ -114,19 +114,19 @@ not_of_level n (Some p) h = go (nat_eq (level_of p.1) n) refl
 no_operator : (n : ℕ) (t : Token) → goes_on n t ≡ false → is_some (operators_at n t) ≡ false
 no_operator n t h = not_of_level n (binary_operators.says t) (or_false (of_least_level n (binary_operators.says t)) _ (or_false (is_mark "[" t) _ h).1).0
 
-then_higher : (n : ℕ) (rest : List Token) → starts (goes_on n) rest ≡ false → starts (goes_on (suc n)) rest ≡ false
+pub then_higher : (n : ℕ) (rest : List Token) → starts (goes_on n) rest ≡ false → starts (goes_on (suc n)) rest ≡ false
 then_higher n [] h = refl
 then_higher n (t ∷ ts) h = goes_higher n t h
 
-then_no_operator : (n : ℕ) (rest : List Token) → starts (goes_on n) rest ≡ false → starts (λ t. is_some (operators_at n t)) rest ≡ false
+pub then_no_operator : (n : ℕ) (rest : List Token) → starts (goes_on n) rest ≡ false → starts (λ t. is_some (operators_at n t)) rest ≡ false
 then_no_operator n [] h = refl
 then_no_operator n (t ∷ ts) h = no_operator n t h
 
-then_no_bracket : (n : ℕ) (rest : List Token) → starts (goes_on n) rest ≡ false → starts (is_mark "[") rest ≡ false
+pub then_no_bracket : (n : ℕ) (rest : List Token) → starts (goes_on n) rest ≡ false → starts (is_mark "[") rest ≡ false
 then_no_bracket n [] h = refl
 then_no_bracket n (t ∷ ts) h = (or_false (is_mark "[" t) _ h).0
 
-then_no_question : (rest : List Token) → starts (goes_on 0) rest ≡ false → starts (is_mark "?") rest ≡ false
+pub then_no_question : (rest : List Token) → starts (goes_on 0) rest ≡ false → starts (is_mark "?") rest ≡ false
 then_no_question [] h = refl
 then_no_question (t ∷ ts) h = (or_false (of_least_level 0 (binary_operators.says t)) _ (or_false (is_mark "[" t) _ h).1).1
 
@@ -145,7 +145,7 @@ operator_no_bracket t o h =
       let i = (mark_is_word "[").is t k.0 k.1 in
       none_some o (ap binary_operators.says (sym i) ∙ h))
 
-operator_stops : (n : ℕ) (t : Token) (o : ℕ × Operation) → binary_operators.says t ≡ Some o → level_of o.1 ≡ n → goes_on (suc n) t ≡ false
+pub operator_stops : (n : ℕ) (t : Token) (o : ℕ × Operation) → binary_operators.says t ≡ Some o → level_of o.1 ≡ n → goes_on (suc n) t ≡ false
 operator_stops n t o h l =
     or_both (is_mark "[" t) _ (operator_no_bracket t o h)
       (or_both (of_least_level (suc n) (binary_operators.says t)) _
@@ -154,7 +154,7 @@ operator_stops n t o h l =
 
 -- ---- levels
 
-level_to : (n : ℕ) (x : RawExpr) (ts : List Token) → LeftSpelled operation_of (Expression (suc n)) (one_spelled (operators_at n)) x ts → Expression n x ts
+pub level_to : (n : ℕ) (x : RawExpr) (ts : List Token) → LeftSpelled operation_of (Expression (suc n)) (one_spelled (operators_at n)) x ts → Expression n x ts
 level_to n x ts (LeftSpelled.one y us d) = Expression.higher n y us d
 level_to n x ts (LeftSpelled.more y z o us os ws d (t, i, h) e) =
     let k = operator_is n t o h in
@@ -163,7 +163,7 @@ level_to n x ts (LeftSpelled.more y z o us os ws d (t, i, h) e) =
     let whole = subst (λ l. Expression l (operation_of y o z) (us ++ (punctuator o.0 (binary_sign o.1) ∷ ws))) k.1 (Expression.binary_operation o.0 o.1 y z us ws left right) in
     subst (Expression n (operation_of y o z)) (ap (λ q. us ++ q) (ap (λ q. q ∷ ws) (sym k.0) ∙ ap (λ q. q ++ ws) (sym i))) whole
 
-level_from : (n : ℕ) (x : RawExpr) (ts : List Token) → Expression n x ts → 1 ≤ n → n ≤ 10 → LeftSpelled operation_of (Expression (suc n)) (one_spelled (operators_at n)) x ts
+pub level_from : (n : ℕ) (x : RawExpr) (ts : List Token) → Expression n x ts → 1 ≤ n → n ≤ 10 → LeftSpelled operation_of (Expression (suc n)) (one_spelled (operators_at n)) x ts
 level_from n x ts (Expression.conditional p q c y z cs ys zs d e f) lo hi = let bad : ⊥ = omega (arith, lo) in absurd bad
 level_from n x ts (Expression.binary_operation p o y z ys zs d e) lo hi =
     LeftSpelled.more y z (p, o) ys (punctuator p (binary_sign o) ∷ []) zs (level_from (level_of o) y ys d lo hi) (punctuator p (binary_sign o), refl, operator_own p o) e
@@ -175,7 +175,7 @@ level_from n x ts (Expression.paren p q y ys d) lo hi = let bad : ⊥ = omega (a
 level_from n x ts (Expression.higher m y ys d) lo hi = LeftSpelled.one y ys d
 
 -- any operator of the level
-some_operator : (n : ℕ) → 1 ≤ n → n ≤ 10 → (t : Token) × (o : ℕ × Operation) × (operators_at n t ≡ Some o)
+pub some_operator : (n : ℕ) → 1 ≤ n → n ≤ 10 → (t : Token) × (o : ℕ × Operation) × (operators_at n t ≡ Some o)
 some_operator zero lo hi = let bad : ⊥ = omega (arith, lo) in absurd bad
 some_operator (suc zero) lo hi = let o = Operation.logical_or in (punctuator 0 (binary_sign o), (0, o), refl)
 some_operator (suc (suc zero)) lo hi = let o = Operation.logical_and in (punctuator 0 (binary_sign o), (0, o), refl)
@@ -191,3 +191,20 @@ some_operator (suc (suc (suc (suc (suc (suc (suc (suc (suc (suc (suc n))))))))))
 
 abbrev pub ExprLaw : ℕ → ℕ → Reader Token RawExpr → Type 0
 ExprLaw m n r = Lawful r (plain (Expression n)) (ExprBefore m n) (Expression n)
+
+abbrev OperatorOf : ℕ → Spelled Token (ℕ × Operation)
+OperatorOf n = one_spelled (operators_at n)
+
+-- one level, from that of its operands
+pub level_law : (m n : ℕ) → 1 ≤ n → n ≤ 10 → (r : Reader Token RawExpr) → ExprLaw m (suc n) r → ExprLaw m n (level_reader m n r)
+level_law m n lo hi r l =
+    let some = some_operator n lo hi in
+    recast_plain (level_reader m n r) _ _ (ExprBefore m n) _ (Expression n)
+        (level_lawful operation_of m (λ t. is_some (operators_at n t)) (one (operators_at n)) r (Expression (suc n)) (OperatorOf n) (goes_on (suc n))
+          (one_lawful (operators_at n) some.0 some.1 some.2) l
+          (λ o a rest (t, i, h). let k = operator_is n t o h in
+            (ap (λ z. starts (λ u. is_some (operators_at n u)) (z ++ rest)) i ∙ ap is_some h,
+              ap (λ z. starts (goes_on (suc n)) (z ++ rest)) i ∙ operator_stops n t o (operator_says n t o h) k.1,
+              (let e = ap length i in omega (arith, e)))))
+        (λ x front rest h. (level_from n x front h.0 lo hi, h.1, then_higher n rest h.2, then_no_operator n rest h.2))
+        (λ x front d. level_to n x front d)

@@ -166,6 +166,9 @@ operator_is n t p h = let e = of_level_is n (binary_operators.says t) p h in (bi
 pub operator_own : (p : ℕ) (o : Operation) → operators_at (level_of o) (punctuator p (binary_sign o)) ≡ Some (p, o)
 operator_own p o = ap (of_level (level_of o)) (binary_is_word.own (p, o)) ∙ ap (λ b. when b (p, o)) (eq-eqb (level_of o) (level_of o) refl)
 
+pub operator_says : (n : ℕ) (t : Token) (p : ℕ × Operation) → operators_at n t ≡ Some p → binary_operators.says t ≡ Some p
+operator_says n t p h = (of_level_is n (binary_operators.says t) p h).0
+
 -- ---- the others
 
 spelled : Spelling
