@@ -23,7 +23,7 @@ use Rattle.species_ast.specs.declared.raw.RawTerm.TheVariants as term
 use Rattle.species_ast.specs.declared.raw.RawTarget.{RawTarget}
 use Rattle.species_parser.specs.Words.{when, the_mark, the_keyword, unary_operators, binary_operators, of_level, operators_at, names, numbers, is_mark, is_the_keyword, is_type, of_least_level, goes_on}
 use Rattle.species_parser.specs.Reading.{of_kind, unsigned_of, type_reader, number_of, element_of, unary_of, cast_of, opened_of, operation_of, choice_of, subscript_reader, subscripts_reader, opened_reader, operand_reader, level_reader, product_of, binary_reader, choice_reader, operand_at, expression_at, product_at, subscripts_at, target_of, target_at}
-use Rattle.species_parser.proofs.Words.{mark_is_word, keyword_is_word, binary_is_word, operator_is, operator_own, operator_says}
+use Rattle.species_parser.proofs.Words.{mark_is_word, keyword_is_word, binary_is_word, operator_is, operator_own, operator_says, never, clash, mark_apart}
 
 -- ---- types
 
@@ -71,13 +71,6 @@ some_type p k ks rest (TypeSpecifier.unsigned_int q r) = refl
 
 abbrev pub ExprBefore : ℕ → ℕ → Before Token RawExpr
 ExprBefore m n x front rest = Expression n x front × (length front < m) × (starts (goes_on n) rest ≡ false)
-
-pub never : (b : Bool) → (b ≡ true → ⊥) → b ≡ false
-never true h = absurd (h refl)
-never false h = refl
-
-pub clash : true ≡ false → ⊥
-clash h = cc
 
 or_false : (a b : Bool) → (a || b) ≡ false → (a ≡ false) × (b ≡ false)
 or_false true b h = absurd (clash h)
@@ -131,23 +124,9 @@ then_no_question [] h = refl
 then_no_question (t ∷ ts) h = (or_false (of_least_level 0 (binary_operators.says t)) _ (or_false (is_mark "[" t) _ h).1).1
 
 -- an operator of a level does not go on with an operand of a higher one
-is_some_in : {A : Type 0} (o : Option A) → is_some o ≡ true → (x : A) × (o ≡ Some x)
-is_some_in (Some x) h = (x, refl)
-is_some_in None h = absurd (clash (sym h))
-
-none_some : {A : Type 0} (x : A) → None ≡ Some x → ⊥
-none_some x h = cc
-
-operator_no_bracket : (t : Token) (o : ℕ × Operation) → binary_operators.says t ≡ Some o → is_mark "[" t ≡ false
-operator_no_bracket t o h =
-    never (is_mark "[" t) (λ e.
-      let k = is_some_in ((the_mark "[").says t) e in
-      let i = (mark_is_word "[").is t k.0 k.1 in
-      none_some o (ap binary_operators.says (sym i) ∙ h))
-
 pub operator_stops : (n : ℕ) (t : Token) (o : ℕ × Operation) → binary_operators.says t ≡ Some o → level_of o.1 ≡ n → goes_on (suc n) t ≡ false
 operator_stops n t o h l =
-    or_both (is_mark "[" t) _ (operator_no_bracket t o h)
+    or_both (is_mark "[" t) _ (mark_apart binary_operators "[" t o h (λ q. refl))
       (or_both (of_least_level (suc n) (binary_operators.says t)) _
         (ap (of_least_level (suc n)) h ∙ never (nat_le (suc n) (level_of o.1)) (λ e. let le = leb-true (suc n) (level_of o.1) e in omega (arith, le, l)))
         (ap (λ z. z && is_mark "?" t) (not_zero n)))
@@ -208,3 +187,7 @@ level_law m n lo hi r l =
               (let e = ap length i in omega (arith, e)))))
         (λ x front rest h. (level_from n x front h.0 lo hi, h.1, then_higher n rest h.2, then_no_operator n rest h.2))
         (λ x front d. level_to n x front d)
+
+pub then_any : (n : ℕ) (rest : List Token) → starts (goes_on 0) rest ≡ false → starts (goes_on n) rest ≡ false
+then_any zero rest h = h
+then_any (suc n) rest h = then_higher n rest (then_any n rest h)

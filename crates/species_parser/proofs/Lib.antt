@@ -1,3 +1,4 @@
 pub mod Words
 pub mod Expressions
 pub mod Operands
+pub mod Declarations
