@@ -2,3 +2,4 @@ pub mod Words
 pub mod Expressions
 pub mod Operands
 pub mod Declarations
+pub mod Headers
