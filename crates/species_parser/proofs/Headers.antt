@@ -80,7 +80,7 @@ change_viable x front (inr (inr (p, y, (a, b, i, d, f)))) = subst (λ z. ChangeS
 pub target_starts : (c : Token → Bool) (b : Bool) → ((m : Spelling) → c (name m) ≡ b) → (t : RawTarget) (ts rest : List Token) → Target t ts → starts c (ts ++ rest) ≡ b
 target_starts c b h t ts rest (Target.element m subs us s) = h m
 
-after_target : (c : Token → Bool) (b : Bool) → ((m : Spelling) → c (name m) ≡ b) → (t : RawTarget) (ts us rest : List Token) → Target t ts → starts c ((ts ++ us) ++ rest) ≡ b
+pub after_target : (c : Token → Bool) (b : Bool) → ((m : Spelling) → c (name m) ≡ b) → (t : RawTarget) (ts us rest : List Token) → Target t ts → starts c ((ts ++ us) ++ rest) ≡ b
 after_target c b h t ts us rest d = ap (starts c) (append_assoc ts us rest) ∙ target_starts c b h t ts (us ++ rest) d
 
 change_full : (n : ℕ) (p : ℕ) (x : RawChange) (front rest : List Token) → Change p x front → length front < n → starts (goes_on 0) rest ≡ false → starts (is_mark "[") rest ≡ false → ChangeF n (p, x) front rest

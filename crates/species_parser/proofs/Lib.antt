@@ -3,3 +3,4 @@ pub mod Expressions
 pub mod Operands
 pub mod Declarations
 pub mod Headers
+pub mod Statements
