@@ -4,3 +4,6 @@ pub mod Operands
 pub mod Declarations
 pub mod Headers
 pub mod Statements
+pub mod Units
+pub mod Depth
+pub mod Whole
