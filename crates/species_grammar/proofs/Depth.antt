@@ -141,6 +141,19 @@ both_takes {Tok} {A} {B} r q k j h t ts p rest d = go (bind_read (r ts) (λ x us
 pub fewer_takes : {Tok A : Type 0} (r : Reader Tok A) (k : ℕ) → Takes r k → Takes r 0
 fewer_takes r k h ts x rest d = omega (arith, h ts x rest d)
 
+pub mapped_takes : {Tok A B : Type 0} (f : A → B) (r : Reader Tok A) (k : ℕ) → Takes r k → Takes (mapped f r) k
+mapped_takes {Tok} {A} {B} f r k h ts y rest d = go (bind_read (r ts) (λ x us. Answer.read (f x) us) y rest d)
+  where
+    go : Reads (r ts) (λ x us. Answer.read (f x) us) y rest → k + length rest ≤ length ts
+    go (Reads.reads x us o e) = let i : us ≡ rest = same_rest e in omega (arith, h ts x us o, ap length i)
+
+pub choose_takes : {Tok A : Type 0} (c : Tok → Bool) (r q : Reader Tok A) (k : ℕ) → Takes r k → Takes q k → Takes (choose c r q) k
+choose_takes {Tok} {A} c r q k h j ts x rest d = go (starts c ts) d
+  where
+    go : (b : Bool) → (if b then r ts else q ts) ≡ Answer.read x rest → k + length rest ≤ length ts
+    go true e = h ts x rest e
+    go false e = j ts x rest e
+
 -- what is spelled by at least k tokens is read from k
 pub takes_of : {Tok A : Type 0} (r : Reader Tok A) (s f : Before Tok A) (v : Spelled Tok A) (k : ℕ) → Lawful r s f v → ((x : A) (front : List Tok) → v x front → k ≤ length front) → Takes r k
 takes_of r s f v k l h ts x rest d =
@@ -149,6 +162,15 @@ takes_of r s f v k l h ts x rest d =
 
 pub takes_none : {Tok A : Type 0} (r : Reader Tok A) (s f : Before Tok A) (v : Spelled Tok A) → Lawful r s f v → Takes r 0
 takes_none r s f v l = takes_of r s f v 0 l (λ x front h. omega arith)
+
+pub nothing_takes : {Tok A : Type 0} (y : A) → Takes {Tok = Tok} (nothing y) 0
+nothing_takes y ts x rest d = let i = same_rest d in omega (arith, ap length i)
+
+pub maybe_word_takes : {Tok A : Type 0} (w : Word Tok A) → Takes (maybe_word w) 0
+maybe_word_takes w = choose_takes (is_of w) _ _ 0 (mapped_takes Some (word w) 0 (fewer_takes (word w) 1 (one_takes w.says))) (nothing_takes None)
+
+pub skip_takes : {Tok A B : Type 0} (w : Word Tok A) (r : Reader Tok B) (k : ℕ) → Takes r k → Takes (skip w r) (1 + k)
+skip_takes w r k h = mapped_takes (λ p. p.1) _ (1 + k) (both_takes (word w) r 1 k (one_takes w.says) h)
 
 pub skip_enough : {Tok A B : Type 0} (w : Word Tok A) (r : Reader Tok B) (n : ℕ) → Enough r n → Enough (skip w r) (suc n)
 skip_enough w r n h = let l : suc n ≤ 1 + n = omega arith in mapped_enough (λ p. p.1) _ (suc n) (both_enough (word w) r 1 (suc n) n (one_takes w.says) (one_enough w.says (suc n)) h l)

@@ -101,7 +101,7 @@ arrays_viable [] front h = subst (MoreArrays []) (sym h) MoreArrays.none
 arrays_viable (x ∷ xs) front (a, b, i, (p, c, j, d), m) =
     subst (MoreArrays (x ∷ xs)) (sym (i ∙ ap (λ z. z ++ b) j)) (MoreArrays.more p x xs c b d (arrays_viable xs b m))
 
-arrays_lawful : (n : ℕ) → Lawful (more_arrays_at n) (plain MoreArrays) (MoreArraysBefore n) MoreArrays
+pub arrays_lawful : (n : ℕ) → Lawful (more_arrays_at n) (plain MoreArrays) (MoreArraysBefore n) MoreArrays
 arrays_lawful n =
     recast_plain (more_arrays_at n) _ _ (MoreArraysBefore n) _ MoreArrays
         (many_lawful (skip (the_mark ",") (array_at n)) (is_mark ",") _ _ _ (skip_lawful (the_mark ",") (mark_is_word ",") (array_at n) _ _ _ (array_lawful n)) (λ x a rest h. ap (λ z. starts (is_mark ",") (z ++ rest)) h.2) n)
@@ -163,7 +163,7 @@ local_full n x front rest (InitDeclarator.initialised p m e es d) lt h =
     let len : length es < n = omega (arith, lt) in
     ((m, Some e), refl, (name m ∷ [], punctuator p "=" ∷ es, refl, refl, (p, es, refl, (d, len, h.0))))
 
-local_lawful : (n : ℕ) → Lawful (local_at n) (plain InitDeclarator) (LocalBefore n) InitDeclarator
+pub local_lawful : (n : ℕ) → Lawful (local_at n) (plain InitDeclarator) (LocalBefore n) InitDeclarator
 local_lawful n =
     recast_plain (local_at n) _ _ (LocalBefore n) _ InitDeclarator
         (mapped_lawful local_of (both (word names) (maybe (the_mark "=") (expression_at n))) _ _ _
@@ -199,7 +199,7 @@ locals_viable [] front h = subst (MoreDeclarators []) (sym h) MoreDeclarators.no
 locals_viable (x ∷ xs) front (a, b, i, (p, c, j, d), m) =
     subst (MoreDeclarators (x ∷ xs)) (sym (i ∙ ap (λ z. z ++ b) j)) (MoreDeclarators.more p x xs c b d (locals_viable xs b m))
 
-locals_lawful : (n : ℕ) → Lawful (more_locals_at n) (plain MoreDeclarators) (MoreLocalsBefore n) MoreDeclarators
+pub locals_lawful : (n : ℕ) → Lawful (more_locals_at n) (plain MoreDeclarators) (MoreLocalsBefore n) MoreDeclarators
 locals_lawful n =
     recast_plain (more_locals_at n) _ _ (MoreLocalsBefore n) _ MoreDeclarators
         (many_lawful (skip (the_mark ",") (local_at n)) (is_mark ",") _ _ _ (skip_lawful (the_mark ",") (mark_is_word ",") (local_at n) _ _ _ (local_lawful n)) (λ x a rest h. ap (λ z. starts (is_mark ",") (z ++ rest)) h.2) n)

@@ -224,7 +224,7 @@ step_full n x front rest (Step.set_sub p q i j e es d) lt h =
     inr (refl, inr (refl, ((i, step_set (j, sub_after e)), refl, (name i ∷ [], punctuator p "=" ∷ name j ∷ punctuator q "-" ∷ es, refl, refl,
       inr (refl, inr (refl, inr (refl, inr (refl, (p, name j ∷ punctuator q "-" ∷ es, refl, ((j, sub_after e), refl, (name j ∷ [], punctuator q "-" ∷ es, refl, refl, inr (refl, (e, refl, (q, es, refl, (d, len, then_any 10 rest h)))))))))))))))
 
-step_lawful : (n : ℕ) → Lawful (step_at n) (plain Step) (StepBefore n) Step
+pub step_lawful : (n : ℕ) → Lawful (step_at n) (plain Step) (StepBefore n) Step
 step_lawful n =
     recast_plain (step_at n) _ _ (StepBefore n) _ Step
         (choose_lawful (is_mark "++") (mapped step.UpBefore (skip (the_mark "++") (word names))) _ _ _ _ _ _ _

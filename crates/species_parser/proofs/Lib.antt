@@ -7,3 +7,4 @@ pub mod Statements
 pub mod Units
 pub mod Depth
 pub mod Whole
+pub mod Enough
