@@ -63,11 +63,11 @@ grow at h n (suc j) ts =
 
 -- ---- enough depth
 
-data Shallow {Tok A B : Type 0} (o : Answer Tok A) (f : A → Reader Tok B) : Type 0 where
+pub data Shallow {Tok A B : Type 0} (o : Answer Tok A) (f : A → Reader Tok B) : Type 0 where
   first : o ≡ Answer.shallow → Shallow o f
   second : (x : A) (us : List Tok) → o ≡ Answer.read x us → f x us ≡ Answer.shallow → Shallow o f
 
-bind_shallow : {Tok A B : Type 0} (o : Answer Tok A) (f : A → Reader Tok B) → (o >>= f) ≡ Answer.shallow → Shallow o f
+pub bind_shallow : {Tok A B : Type 0} (o : Answer Tok A) (f : A → Reader Tok B) → (o >>= f) ≡ Answer.shallow → Shallow o f
 bind_shallow (Answer.read x us) f h = Shallow.second x us refl h
 bind_shallow (Answer.stuck us) f h = cc
 bind_shallow Answer.shallow f h = Shallow.first refl

@@ -8,3 +8,4 @@ pub mod Units
 pub mod Depth
 pub mod Whole
 pub mod Enough
+mod Tries
