@@ -8,4 +8,5 @@ pub mod Units
 pub mod Depth
 pub mod Whole
 pub mod Enough
-mod Tries
+pub mod Examples
+pub mod Refusals
