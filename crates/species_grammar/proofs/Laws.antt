@@ -251,8 +251,8 @@ module _ {Tok A : Type 0} (says : Tok → Option A) (t : Tok) (x : A) (own : say
 pub word_lawful : {Tok A : Type 0} (w : Word Tok A) (k : IsWord w) → Lawful (word w) (plain (word_spelled w)) (plain (word_spelled w)) (word_spelled w)
 word_lawful w k =
     recast_plain (word w) _ _ (plain (word_spelled w)) (one_spelled w.says) (word_spelled w) (one_lawful w.says (w.token k.some) k.some (k.own k.some))
-        (λ x front rest h. (w.token x, h, k.own x))
-        (λ x front h. h.1 ∙ ap (λ z. z ∷ []) (k.is h.0 x h.2))
+    (λ x front rest h. (w.token x, h, k.own x))
+    (λ x front h. h.1 ∙ ap (λ z. z ∷ []) (k.is h.0 x h.2))
 
 -- ---- choose
 

@@ -114,6 +114,7 @@ whole_enough {Tok} {A} r n h ts lt d = go (bind_shallow (r ts) ended d)
     not_ended : (x : A) (us : List Tok) → ended x us ≡ Answer.shallow → ⊥
     not_ended x [] e = cc
     not_ended x (u ∷ us) e = cc
+
     go : Shallow (r ts) ended → ⊥
     go (Shallow.first e) = h ts lt e
     go (Shallow.second x us o e) = not_ended x us e

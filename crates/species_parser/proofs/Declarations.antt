@@ -1,8 +1,7 @@
 -- The readers of declarations are lawful.
-use Rattle.std.proofs.Common.{◌≡◌, ◌∙◌, ap, sym, refl, subst, ℕ, zero, suc, ◌+◌, ◌<◌, ◌≤◌, List, [], ◌∷◌, ◌++◌, length, Option, Some, None, Bool, true, false, arith, length-append, append_assoc, append-nil, inl, inr}
-use Rattle.std.specs.Prelude.{◌⊎◌, is_some}
-use Rattle.species_grammar.specs.Reader.{Reader, Word, is_of, starts, word, both, mapped, choose, skip, ends, maybe, maybe_word, cons_of, many}
-use Rattle.species_grammar.specs.Lawful.{Spelled, Before, IsWord, Lawful, plain, word_spelled, both_before, both_spelled, mapped_before, mapped_spelled, skip_before, skip_spelled, ends_before, ends_spelled, maybe_before, maybe_spelled, Short, many_before, many_spelled}
+use Rattle.std.proofs.Common.{◌≡◌, ◌∙◌, ap, sym, refl, subst, ℕ, suc, ◌<◌, ◌≤◌, List, [], ◌∷◌, ◌++◌, length, Some, None, Bool, false, arith, length-append, append_assoc}
+use Rattle.species_grammar.specs.Reader.{starts, word, both, mapped, skip, ends, maybe, cons_of}
+use Rattle.species_grammar.specs.Lawful.{Spelled, Before, Lawful, plain, word_spelled, both_before, both_spelled, mapped_before, mapped_spelled, skip_before, skip_spelled, ends_before, ends_spelled, maybe_before, maybe_spelled, Short, many_before, many_spelled}
 use Rattle.species_grammar.proofs.Laws.{recast_plain, both_lawful, mapped_lawful, word_lawful, skip_lawful, ends_lawful, maybe_lawful, many_lawful}
 use Rattle.species_ast.specs.Token.{Token}
 use Rattle.species_ast.specs.Spelling.{Spelling}
@@ -37,8 +36,8 @@ SizesF n = mapped_before cons_of (both_before (SubscriptBefore n) (SubsBefore n)
 array_viable : (x : RawArray) (front : List Token) → mapped_spelled array_of (both_spelled (word_spelled names) SizesV) x front → ArrayDeclarator x front
 array_viable x front (p, y, (a, b, i, j, (s, e, (c, d, k, (q, f, m, (r, xs, o, xd)), sd)))) =
     subst (λ z. ArrayDeclarator z front) (ap (λ z. array_of (p.0, z)) e ∙ y)
-      (subst (ArrayDeclarator (array_of (p.0, s.0 ∷ s.1))) (sym (i ∙ ap (λ z. z ++ b) j ∙ ap (λ z. name p.0 ∷ z) (k ∙ ap (λ z. z ++ d) (m ∙ ap (λ z. punctuator q "[" ∷ z) o))))
-        (ArrayDeclarator.array p.0 s.0 s.1 _ (Subscripts.more q r s.0 s.1 xs d xd sd)))
+    (subst (ArrayDeclarator (array_of (p.0, s.0 ∷ s.1))) (sym (i ∙ ap (λ z. z ++ b) j ∙ ap (λ z. name p.0 ∷ z) (k ∙ ap (λ z. z ++ d) (m ∙ ap (λ z. punctuator q "[" ∷ z) o))))
+    (ArrayDeclarator.array p.0 s.0 s.1 _ (Subscripts.more q r s.0 s.1 xs d xd sd)))
 
 -- the first of several subscripts
 abbrev First : List RawExpr → List Token → Type 0
@@ -66,12 +65,12 @@ array_full n x front rest (ArrayDeclarator.array m y ys ts s) lt h =
 array_lawful : (n : ℕ) → Lawful (array_at n) (plain ArrayDeclarator) (ArrayBefore n) ArrayDeclarator
 array_lawful n =
     recast_plain (array_at n) _ _ (ArrayBefore n) _ ArrayDeclarator
-        (mapped_lawful array_of (both (word names) (mapped cons_of (both (subscript_reader (expression_at n)) (subscripts_at n)))) _ _ _
-          (both_lawful (word names) (mapped cons_of (both (subscript_reader (expression_at n)) (subscripts_at n))) _ _ _ _ _ _ (word_lawful names name_is_word)
-            (mapped_lawful cons_of (both (subscript_reader (expression_at n)) (subscripts_at n)) _ _ _
-              (both_lawful (subscript_reader (expression_at n)) (subscripts_at n) _ _ _ _ _ _ (subscript_law n (expression_at n) (expression_lawful n)) (subscripts_lawful n)))))
-        (λ x front rest h. array_full n x front rest h.0 h.1 h.2)
-        array_viable
+    (mapped_lawful array_of (both (word names) (mapped cons_of (both (subscript_reader (expression_at n)) (subscripts_at n)))) _ _ _
+    (both_lawful (word names) (mapped cons_of (both (subscript_reader (expression_at n)) (subscripts_at n))) _ _ _ _ _ _ (word_lawful names name_is_word)
+    (mapped_lawful cons_of (both (subscript_reader (expression_at n)) (subscripts_at n)) _ _ _
+    (both_lawful (subscript_reader (expression_at n)) (subscripts_at n) _ _ _ _ _ _ (subscript_law n (expression_at n) (expression_lawful n)) (subscripts_lawful n)))))
+    (λ x front rest h. array_full n x front rest h.0 h.1 h.2)
+    array_viable
 
 abbrev MoreArraysBefore : ℕ → Before Token (List RawArray)
 MoreArraysBefore n xs front rest = MoreArrays xs front × (length front < n) × (starts (is_mark "[") rest ≡ false) × (starts (is_mark ",") rest ≡ false)
@@ -104,9 +103,9 @@ arrays_viable (x ∷ xs) front (a, b, i, (p, c, j, d), m) =
 pub arrays_lawful : (n : ℕ) → Lawful (more_arrays_at n) (plain MoreArrays) (MoreArraysBefore n) MoreArrays
 arrays_lawful n =
     recast_plain (more_arrays_at n) _ _ (MoreArraysBefore n) _ MoreArrays
-        (many_lawful (skip (the_mark ",") (array_at n)) (is_mark ",") _ _ _ (skip_lawful (the_mark ",") (mark_is_word ",") (array_at n) _ _ _ (array_lawful n)) (λ x a rest h. ap (λ z. starts (is_mark ",") (z ++ rest)) h.2) n)
-        (λ xs front rest h. arrays_full n xs front rest h.0 h.1 h.2 h.3)
-        arrays_viable
+    (many_lawful (skip (the_mark ",") (array_at n)) (is_mark ",") _ _ _ (skip_lawful (the_mark ",") (mark_is_word ",") (array_at n) _ _ _ (array_lawful n)) (λ x a rest h. ap (λ z. starts (is_mark ",") (z ++ rest)) h.2) n)
+    (λ xs front rest h. arrays_full n xs front rest h.0 h.1 h.2 h.3)
+    arrays_viable
 
 abbrev pub GlobalBefore : ℕ → Before Token RawItem
 GlobalBefore n x front rest = GlobalDeclaration x front × (length front < n)
@@ -117,7 +116,7 @@ array_starts c b h a us rest (ArrayDeclarator.array m y ys ts s) = h m
 global_viable : (x : RawItem) (front : List Token) → mapped_spelled global_of (both_spelled TypeSpelled (ends_spelled (mapped_spelled cons_of (both_spelled ArrayDeclarator MoreArrays)) (the_mark ";"))) x front → GlobalDeclaration x front
 global_viable x front (p, y, (ks, b, i, kd, (q, a, j, (s, e, (us, ws, k, d, ds))))) =
     subst (λ z. GlobalDeclaration z front) (ap (item.Global p.0.1) e ∙ y)
-      (subst (GlobalDeclaration (item.Global p.0.1 (s.0 ∷ s.1))) (sym (i ∙ ap (λ z. ks ++ z) (j ∙ ap (λ z. z ++ punctuator q ";" ∷ []) k))) (GlobalDeclaration.global p.0.0 q p.0.1 s.0 s.1 ks us ws kd d ds))
+    (subst (GlobalDeclaration (item.Global p.0.1 (s.0 ∷ s.1))) (sym (i ∙ ap (λ z. ks ++ z) (j ∙ ap (λ z. z ++ punctuator q ";" ∷ []) k))) (GlobalDeclaration.global p.0.0 q p.0.1 s.0 s.1 ks us ws kd d ds))
 
 global_full : (n : ℕ) (x : RawItem) (front rest : List Token) → GlobalDeclaration x front → length front < n
     → mapped_before global_of (both_before TypeBefore (ends_before (mapped_before cons_of (both_before (ArrayBefore n) (MoreArraysBefore n))) (the_mark ";"))) x front rest
@@ -128,19 +127,27 @@ global_full n x front rest (GlobalDeclaration.global p q k a more ks us ws kd d 
     let lu : length us < suc n = omega (arith, lt, l0, l1, l2) in
     let lw : length ws < n = omega (arith, lt, l0, l1, l2) in
     let next : starts (is_the_keyword "int") (((us ++ ws) ++ punctuator q ";" ∷ []) ++ rest) ≡ false =
-      ap (starts (is_the_keyword "int")) (append_assoc (us ++ ws) (punctuator q ";" ∷ []) rest ∙ append_assoc us ws (punctuator q ";" ∷ rest)) ∙ array_starts (is_the_keyword "int") false (λ m. refl) a us (ws ++ (punctuator q ";" ∷ rest)) d in
-    (((p, k), a ∷ more), refl, (ks, (us ++ ws) ++ punctuator q ";" ∷ [], refl, (kd, next),
-      (q, us ++ ws, refl, ((a, more), refl, (us, ws, refl, (d, lu, after_array more ws (punctuator q ";" ∷ rest) ds refl), (ds, lw, refl, refl))))))
+    ap (starts (is_the_keyword "int")) (append_assoc (us ++ ws) (punctuator q ";" ∷ []) rest ∙ append_assoc us ws (punctuator q ";" ∷ rest)) ∙ array_starts (is_the_keyword "int") false (λ m. refl) a us (ws ++ (punctuator q ";" ∷ rest)) d in (
+      ((p, k), a ∷ more),
+      refl,
+      (
+        ks,
+        (us ++ ws) ++ punctuator q ";" ∷ [],
+        refl,
+        (kd, next),
+        (q, us ++ ws, refl, ((a, more), refl, (us, ws, refl, (d, lu, after_array more ws (punctuator q ";" ∷ rest) ds refl), (ds, lw, refl, refl)))),
+      ),
+    )
 
 pub global_lawful : (n : ℕ) → Lawful (global_at n) (plain GlobalDeclaration) (GlobalBefore n) GlobalDeclaration
 global_lawful n =
     recast_plain (global_at n) _ _ (GlobalBefore n) _ GlobalDeclaration
-        (mapped_lawful global_of (both type_reader (ends (mapped cons_of (both (array_at n) (more_arrays_at n))) (the_mark ";"))) _ _ _
-          (both_lawful type_reader (ends (mapped cons_of (both (array_at n) (more_arrays_at n))) (the_mark ";")) _ _ _ _ _ _ type_lawful
-            (ends_lawful (mapped cons_of (both (array_at n) (more_arrays_at n))) (the_mark ";") (mark_is_word ";") _ _ _
-              (mapped_lawful cons_of (both (array_at n) (more_arrays_at n)) _ _ _ (both_lawful (array_at n) (more_arrays_at n) _ _ _ _ _ _ (array_lawful n) (arrays_lawful n))))))
-        (λ x front rest h. global_full n x front rest h.0 h.1)
-        global_viable
+    (mapped_lawful global_of (both type_reader (ends (mapped cons_of (both (array_at n) (more_arrays_at n))) (the_mark ";"))) _ _ _
+    (both_lawful type_reader (ends (mapped cons_of (both (array_at n) (more_arrays_at n))) (the_mark ";")) _ _ _ _ _ _ type_lawful
+    (ends_lawful (mapped cons_of (both (array_at n) (more_arrays_at n))) (the_mark ";") (mark_is_word ";") _ _ _
+    (mapped_lawful cons_of (both (array_at n) (more_arrays_at n)) _ _ _ (both_lawful (array_at n) (more_arrays_at n) _ _ _ _ _ _ (array_lawful n) (arrays_lawful n))))))
+    (λ x front rest h. global_full n x front rest h.0 h.1)
+    global_viable
 
 -- ---- locals
 
@@ -166,10 +173,10 @@ local_full n x front rest (InitDeclarator.initialised p m e es d) lt h =
 pub local_lawful : (n : ℕ) → Lawful (local_at n) (plain InitDeclarator) (LocalBefore n) InitDeclarator
 local_lawful n =
     recast_plain (local_at n) _ _ (LocalBefore n) _ InitDeclarator
-        (mapped_lawful local_of (both (word names) (maybe (the_mark "=") (expression_at n))) _ _ _
-          (both_lawful (word names) (maybe (the_mark "=") (expression_at n)) _ _ _ _ _ _ (word_lawful names name_is_word) (maybe_lawful (the_mark "=") (mark_is_word "=") (expression_at n) _ _ _ (expression_lawful n))))
-        (λ x front rest h. local_full n x front rest h.0 h.1 h.2)
-        local_viable
+    (mapped_lawful local_of (both (word names) (maybe (the_mark "=") (expression_at n))) _ _ _
+    (both_lawful (word names) (maybe (the_mark "=") (expression_at n)) _ _ _ _ _ _ (word_lawful names name_is_word) (maybe_lawful (the_mark "=") (mark_is_word "=") (expression_at n) _ _ _ (expression_lawful n))))
+    (λ x front rest h. local_full n x front rest h.0 h.1 h.2)
+    local_viable
 
 abbrev MoreLocalsBefore : ℕ → Before Token (List RawLocal)
 MoreLocalsBefore n xs front rest = MoreDeclarators xs front × (length front < n) × Ends rest × (starts (is_mark ",") rest ≡ false)
@@ -202,9 +209,9 @@ locals_viable (x ∷ xs) front (a, b, i, (p, c, j, d), m) =
 pub locals_lawful : (n : ℕ) → Lawful (more_locals_at n) (plain MoreDeclarators) (MoreLocalsBefore n) MoreDeclarators
 locals_lawful n =
     recast_plain (more_locals_at n) _ _ (MoreLocalsBefore n) _ MoreDeclarators
-        (many_lawful (skip (the_mark ",") (local_at n)) (is_mark ",") _ _ _ (skip_lawful (the_mark ",") (mark_is_word ",") (local_at n) _ _ _ (local_lawful n)) (λ x a rest h. ap (λ z. starts (is_mark ",") (z ++ rest)) h.2) n)
-        (λ xs front rest h. locals_full n xs front rest h.0 h.1 h.2 h.3)
-        locals_viable
+    (many_lawful (skip (the_mark ",") (local_at n)) (is_mark ",") _ _ _ (skip_lawful (the_mark ",") (mark_is_word ",") (local_at n) _ _ _ (local_lawful n)) (λ x a rest h. ap (λ z. starts (is_mark ",") (z ++ rest)) h.2) n)
+    (λ xs front rest h. locals_full n xs front rest h.0 h.1 h.2 h.3)
+    locals_viable
 
 abbrev pub DeclarationBefore : ℕ → Before Token RawStmt
 DeclarationBefore n x front rest = LocalDeclaration x front × (length front < n)
@@ -216,7 +223,7 @@ local_starts c b h a us rest (InitDeclarator.initialised p m e es d) = h m
 declaration_viable : (x : RawStmt) (front : List Token) → mapped_spelled declaration_of (both_spelled TypeSpelled (ends_spelled (mapped_spelled cons_of (both_spelled InitDeclarator MoreDeclarators)) (the_mark ";"))) x front → LocalDeclaration x front
 declaration_viable x front (p, y, (ks, b, i, kd, (q, a, j, (s, e, (us, ws, k, d, ds))))) =
     subst (λ z. LocalDeclaration z front) (ap (λ z. statement p.0.0 (what.Declare p.0.1 z)) e ∙ y)
-      (subst (LocalDeclaration (statement p.0.0 (what.Declare p.0.1 (s.0 ∷ s.1)))) (sym (i ∙ ap (λ z. ks ++ z) (j ∙ ap (λ z. z ++ punctuator q ";" ∷ []) k))) (LocalDeclaration.declaration p.0.0 q p.0.1 s.0 s.1 ks us ws kd d ds))
+    (subst (LocalDeclaration (statement p.0.0 (what.Declare p.0.1 (s.0 ∷ s.1)))) (sym (i ∙ ap (λ z. ks ++ z) (j ∙ ap (λ z. z ++ punctuator q ";" ∷ []) k))) (LocalDeclaration.declaration p.0.0 q p.0.1 s.0 s.1 ks us ws kd d ds))
 
 declaration_full : (n : ℕ) (x : RawStmt) (front rest : List Token) → LocalDeclaration x front → length front < n
     → mapped_before declaration_of (both_before TypeBefore (ends_before (mapped_before cons_of (both_before (LocalBefore n) (MoreLocalsBefore n))) (the_mark ";"))) x front rest
@@ -227,19 +234,27 @@ declaration_full n x front rest (LocalDeclaration.declaration p q k a more ks us
     let lu : length us < suc n = omega (arith, lt, l0, l1, l2) in
     let lw : length ws < n = omega (arith, lt, l0, l1, l2) in
     let next : starts (is_the_keyword "int") (((us ++ ws) ++ punctuator q ";" ∷ []) ++ rest) ≡ false =
-      ap (starts (is_the_keyword "int")) (append_assoc (us ++ ws) (punctuator q ";" ∷ []) rest ∙ append_assoc us ws (punctuator q ";" ∷ rest)) ∙ local_starts (is_the_keyword "int") false (λ m. refl) a us (ws ++ (punctuator q ";" ∷ rest)) d in
-    (((p, k), a ∷ more), refl, (ks, (us ++ ws) ++ punctuator q ";" ∷ [], refl, (kd, next),
-      (q, us ++ ws, refl, ((a, more), refl, (us, ws, refl, (d, lu, after_local more ws (punctuator q ";" ∷ rest) ds (refl, refl)), (ds, lw, (refl, refl), refl))))))
+    ap (starts (is_the_keyword "int")) (append_assoc (us ++ ws) (punctuator q ";" ∷ []) rest ∙ append_assoc us ws (punctuator q ";" ∷ rest)) ∙ local_starts (is_the_keyword "int") false (λ m. refl) a us (ws ++ (punctuator q ";" ∷ rest)) d in (
+      ((p, k), a ∷ more),
+      refl,
+      (
+        ks,
+        (us ++ ws) ++ punctuator q ";" ∷ [],
+        refl,
+        (kd, next),
+        (q, us ++ ws, refl, ((a, more), refl, (us, ws, refl, (d, lu, after_local more ws (punctuator q ";" ∷ rest) ds (refl, refl)), (ds, lw, (refl, refl), refl)))),
+      ),
+    )
 
 pub declaration_lawful : (n : ℕ) → Lawful (declaration_at n) (plain LocalDeclaration) (DeclarationBefore n) LocalDeclaration
 declaration_lawful n =
     recast_plain (declaration_at n) _ _ (DeclarationBefore n) _ LocalDeclaration
-        (mapped_lawful declaration_of (both type_reader (ends (mapped cons_of (both (local_at n) (more_locals_at n))) (the_mark ";"))) _ _ _
-          (both_lawful type_reader (ends (mapped cons_of (both (local_at n) (more_locals_at n))) (the_mark ";")) _ _ _ _ _ _ type_lawful
-            (ends_lawful (mapped cons_of (both (local_at n) (more_locals_at n))) (the_mark ";") (mark_is_word ";") _ _ _
-              (mapped_lawful cons_of (both (local_at n) (more_locals_at n)) _ _ _ (both_lawful (local_at n) (more_locals_at n) _ _ _ _ _ _ (local_lawful n) (locals_lawful n))))))
-        (λ x front rest h. declaration_full n x front rest h.0 h.1)
-        declaration_viable
+    (mapped_lawful declaration_of (both type_reader (ends (mapped cons_of (both (local_at n) (more_locals_at n))) (the_mark ";"))) _ _ _
+    (both_lawful type_reader (ends (mapped cons_of (both (local_at n) (more_locals_at n))) (the_mark ";")) _ _ _ _ _ _ type_lawful
+    (ends_lawful (mapped cons_of (both (local_at n) (more_locals_at n))) (the_mark ";") (mark_is_word ";") _ _ _
+    (mapped_lawful cons_of (both (local_at n) (more_locals_at n)) _ _ _ (both_lawful (local_at n) (more_locals_at n) _ _ _ _ _ _ (local_lawful n) (locals_lawful n))))))
+    (λ x front rest h. declaration_full n x front rest h.0 h.1)
+    declaration_viable
 
 -- a declaration begins with a type
 pub declaration_starts : (c : Token → Bool) (b : Bool) → ((p : ℕ) → c (keyword p "int") ≡ b) → ((p : ℕ) → c (keyword p "unsigned") ≡ b) → (x : RawStmt) (ts rest : List Token) → LocalDeclaration x ts → starts c (ts ++ rest) ≡ b

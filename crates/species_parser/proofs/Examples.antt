@@ -1,5 +1,5 @@
 -- Small programs and the units that they derive. Places are those of the text that stands above each.
-use Rattle.std.proofs.Common.{◌≡◌, ℕ, List, [], ◌∷◌, ◌++◌, Option, Some, None, true, false, arith, refl}
+use Rattle.std.proofs.Common.{ℕ, List, [], ◌∷◌, Some, None, true, false, refl}
 use Rattle.std.specs.Prelude.{codes, pos}
 use Prim.Native.String.{String}
 use Rattle.species_ast.specs.Token.{Token}
@@ -18,10 +18,8 @@ use Rattle.species_ast.specs.declared.tree.Schedule.TheVariants as schedule
 use Rattle.species_ast.specs.declared.raw.RawUnary.{RawUnary}
 use Rattle.species_ast.specs.declared.raw.RawUnary.TheVariants as unary
 use Rattle.species_ast.specs.declared.raw.RawOp.TheVariants as op
-use Rattle.species_ast.specs.declared.raw.RawChange.{RawChange}
 use Rattle.species_ast.specs.declared.raw.RawChange.TheVariants as change
 use Rattle.species_ast.specs.declared.raw.RawStep.TheVariants as step
-use Rattle.species_ast.specs.declared.raw.RawItem.{RawItem}
 use Rattle.species_ast.specs.declared.raw.RawItem.TheVariants as item
 use Rattle.species_ast.specs.declared.raw.RawUnit.{RawUnit}
 use Rattle.species_ast.specs.declared.raw.RawStmt.{RawStmt}
@@ -75,8 +73,8 @@ abbrev two_arrays_tree : RawUnit
 two_arrays_tree =
     record {
       items =
-        item.Global kind.Int (record { name = at 4 "A"; sizes = lit 6 4 ∷ [] } ∷ record { name = at 10 "B"; sizes = lit 12 2 ∷ lit 15 3 ∷ [] } ∷ [])
-        ∷ item.Global kind.Unsigned (record { name = at 35 "h"; sizes = lit 37 5 ∷ [] } ∷ []) ∷ [];
+          item.Global kind.Int (record { name = at 4 "A"; sizes = lit 6 4 ∷ [] } ∷ record { name = at 10 "B"; sizes = lit 12 2 ∷ lit 15 3 ∷ [] } ∷ [])
+          ∷ item.Global kind.Unsigned (record { name = at 35 "h"; sizes = lit 37 5 ∷ [] } ∷ []) ∷ [];
       function = at 53 "f";
       body = [];
     }
@@ -180,7 +178,7 @@ by_level_tokens =
 abbrev by_level_tree : RawUnit
 by_level_tree =
     function (at 5 "f")
-      (set 11 "x" (expression 15 (term.Or (expression 15 (term.And (bin 15 binary.Lt (bin 15 binary.Add (var 15 "a") (bin 19 binary.Mul (var 19 "b") (var 23 "c"))) (var 27 "d")) (un 32 unary.LogNot (var 33 "e")))) (lit 38 1))) ∷ [])
+    (set 11 "x" (expression 15 (term.Or (expression 15 (term.And (bin 15 binary.Lt (bin 15 binary.Add (var 15 "a") (bin 19 binary.Mul (var 19 "b") (var 23 "c"))) (var 27 "d")) (un 32 unary.LogNot (var 33 "e")))) (lit 38 1))) ∷ [])
 
 pub by_level : Derives by_level_tokens by_level_tree
 unfolding targets.out-RawTarget denote.Hole.Carrier.out targets.roll-RawTarget denote.Hole.Carrier.roll
@@ -210,8 +208,8 @@ declarations_tokens =
 abbrev declarations_tree : RawUnit
 declarations_tree =
     function (at 5 "f")
-      (statement 11 (what.Declare kind.Int (record { name = at 15 "x"; init = Some (lit 19 1) } ∷ record { name = at 22 "y"; init = None } ∷ []))
-        ∷ statement 25 (what.Declare kind.Unsigned (record { name = at 38 "z"; init = None } ∷ [])) ∷ [])
+    (statement 11 (what.Declare kind.Int (record { name = at 15 "x"; init = Some (lit 19 1) } ∷ record { name = at 22 "y"; init = None } ∷ []))
+    ∷ statement 25 (what.Declare kind.Unsigned (record { name = at 38 "z"; init = None } ∷ [])) ∷ [])
 
 pub declarations : Derives declarations_tokens declarations_tree
 unfolding targets.out-RawTarget denote.Hole.Carrier.out targets.roll-RawTarget denote.Hole.Carrier.roll
@@ -228,8 +226,8 @@ changes_tokens =
 abbrev changes_tree : RawUnit
 changes_tree =
     function (at 5 "f")
-      (statement 11 (what.Change (change.Up (target (at 11 "A") (var 13 "i" ∷ lit 16 0 ∷ [])))) ∷ statement 22 (what.Change (change.DownBefore (tgt 24 "x")))
-        ∷ statement 27 (what.Change (change.Down (tgt 27 "y"))) ∷ statement 32 (what.Change (change.UpBefore (tgt 34 "z"))) ∷ statement 37 (what.Change (change.Set (tgt 37 "x") op.Shl (lit 43 2))) ∷ [])
+    (statement 11 (what.Change (change.Up (target (at 11 "A") (var 13 "i" ∷ lit 16 0 ∷ [])))) ∷ statement 22 (what.Change (change.DownBefore (tgt 24 "x")))
+    ∷ statement 27 (what.Change (change.Down (tgt 27 "y"))) ∷ statement 32 (what.Change (change.UpBefore (tgt 34 "z"))) ∷ statement 37 (what.Change (change.Set (tgt 37 "x") op.Shl (lit 43 2))) ∷ [])
 
 pub changes : Derives changes_tokens changes_tree
 unfolding targets.out-RawTarget denote.Hole.Carrier.out targets.roll-RawTarget denote.Hole.Carrier.roll
@@ -246,9 +244,9 @@ lines_before_a_loop_tokens =
 abbrev lines_before_a_loop_tree : RawUnit
 lines_before_a_loop_tree =
     function (at 5 "f")
-      (statement 54 (what.Loop (loop (Some (at 11 "t")) (Some (1, schedule.Static))
-        (record { typed = false; iter = at 59 "i"; start = lit 63 0; tested = at 66 "j"; test = test.Lt; limit = var 70 "n"; step = step.SetAdd (at 73 "i") (at 77 "k") (bin 81 binary.Mul (lit 81 2) (var 85 "m")) })
-        (statement 88 what.Empty))) ∷ [])
+    (statement 54 (what.Loop (loop (Some (at 11 "t")) (Some (1, schedule.Static))
+    (record { typed = false; iter = at 59 "i"; start = lit 63 0; tested = at 66 "j"; test = test.Lt; limit = var 70 "n"; step = step.SetAdd (at 73 "i") (at 77 "k") (bin 81 binary.Mul (lit 81 2) (var 85 "m")) })
+    (statement 88 what.Empty))) ∷ [])
 
 pub lines_before_a_loop : Derives lines_before_a_loop_tokens lines_before_a_loop_tree
 unfolding targets.out-RawTarget denote.Hole.Carrier.out targets.roll-RawTarget denote.Hole.Carrier.roll
@@ -264,9 +262,9 @@ a_typed_loop_tokens =
 abbrev a_typed_loop_tree : RawUnit
 a_typed_loop_tree =
     function (at 5 "f")
-      (statement 11 (what.Loop (loop None None
-        (record { typed = true; iter = at 20 "i"; start = var 24 "n"; tested = at 27 "i"; test = test.Ge; limit = lit 32 0; step = step.DownBefore (at 37 "i") })
-        (set 40 "x" (var 44 "i")))) ∷ [])
+    (statement 11 (what.Loop (loop None None
+    (record { typed = true; iter = at 20 "i"; start = var 24 "n"; tested = at 27 "i"; test = test.Ge; limit = lit 32 0; step = step.DownBefore (at 37 "i") })
+    (set 40 "x" (var 44 "i")))) ∷ [])
 
 pub a_typed_loop : Derives a_typed_loop_tokens a_typed_loop_tree
 unfolding targets.out-RawTarget denote.Hole.Carrier.out targets.roll-RawTarget denote.Hole.Carrier.roll

@@ -1,29 +1,21 @@
 -- The readers of expressions are lawful.
-use Rattle.std.proofs.Common.{◌≡◌, ◌∙◌, ap, sym, refl, subst, ℕ, zero, suc, ◌+◌, ◌<◌, ◌≤◌, List, [], ◌∷◌, ◌++◌, length, Option, Some, None, Bool, true, false, arith, length-append, append_assoc, append-nil, inl, inr}
-use Rattle.std.specs.Prelude.{◌⊎◌, ◌&&◌, ◌||◌, is_some, nat_eq, nat_le, if◌then◌else◌}
-use Rattle.std.proofs.lemmas.Bool.{eqb-true, eq-eqb, leb-true, le-leb}
-use Prim.Native.String.{String}
-use Rattle.species_grammar.specs.Reader.{Reader, Word, is_of, starts, one, word, both, mapped, choose, skip, ends, maybe, maybe_word, cons_of, too_shallow, many, level}
-use Rattle.species_grammar.specs.Lawful.{Spelled, Before, IsWord, Lawful, plain, one_spelled, word_spelled, both_before, both_spelled, mapped_before, mapped_spelled, choose_before, choose_spelled, skip_before, skip_spelled, ends_before, ends_spelled, maybe_before, maybe_spelled, maybe_word_before, maybe_word_spelled, Short, many_before, many_spelled, LeftSpelled}
-use Rattle.species_grammar.proofs.Laws.{recast_plain, both_lawful, mapped_lawful, one_lawful, word_lawful, choose_lawful, skip_lawful, ends_lawful, maybe_lawful, maybe_word_lawful, many_lawful, shallow_lawful, its_own}
+use Rattle.std.proofs.Common.{◌≡◌, ◌∙◌, ap, sym, refl, subst, ℕ, zero, suc, ◌<◌, ◌≤◌, List, [], ◌∷◌, ◌++◌, length, Option, Some, None, Bool, true, false, arith, inl, inr}
+use Rattle.std.specs.Prelude.{◌&&◌, ◌||◌, is_some, nat_eq, nat_le}
+use Rattle.std.proofs.lemmas.Bool.{eqb-true, leb-true, le-leb}
+use Rattle.species_grammar.specs.Reader.{Reader, starts, one, word, both, mapped, maybe_word}
+use Rattle.species_grammar.specs.Lawful.{Spelled, Before, Lawful, plain, one_spelled, word_spelled, both_before, both_spelled, mapped_before, mapped_spelled, choose_before, choose_spelled, maybe_word_before, maybe_word_spelled, LeftSpelled}
+use Rattle.species_grammar.proofs.Laws.{recast_plain, both_lawful, mapped_lawful, one_lawful, word_lawful, choose_lawful, maybe_word_lawful}
 use Rattle.species_grammar.proofs.Levels.{level_lawful}
 use Rattle.species_ast.specs.Token.{Token}
-use Rattle.species_ast.specs.Spelling.{Spelling}
-use Rattle.species_ast.specs.Grammar.Words.{punctuator, keyword, name, number}
-use Rattle.species_ast.specs.Grammar.Expressions.{TypeSpecifier, Operation, level_of, binary_sign, unary_sign, operation, expression, place_of, target, Expression, Subscripts, Target}
+use Rattle.species_ast.specs.Grammar.Words.{punctuator, keyword}
+use Rattle.species_ast.specs.Grammar.Expressions.{TypeSpecifier, Operation, level_of, binary_sign, Expression}
 use Rattle.species_ast.specs.declared.tree.Kind.{Kind}
 use Rattle.species_ast.specs.declared.tree.Kind.TheVariants as kind
-use Rattle.species_ast.specs.declared.tree.Value.{Value}
-use Rattle.species_ast.specs.declared.tree.Value.TheVariants as value
 use Rattle.species_ast.specs.declared.tree.Binary.TheVariants as binary
-use Rattle.species_ast.specs.declared.raw.RawUnary.{RawUnary}
 use Rattle.species_ast.specs.declared.raw.RawExpr.{RawExpr}
-use Rattle.species_ast.specs.declared.raw.RawTerm.{RawTerm}
-use Rattle.species_ast.specs.declared.raw.RawTerm.TheVariants as term
-use Rattle.species_ast.specs.declared.raw.RawTarget.{RawTarget}
-use Rattle.species_parser.specs.Words.{when, the_mark, the_keyword, unary_operators, binary_operators, of_level, operators_at, names, numbers, is_mark, is_the_keyword, is_type, of_least_level, goes_on}
-use Rattle.species_parser.specs.Reading.{of_kind, unsigned_of, type_reader, number_of, element_of, unary_of, cast_of, opened_of, operation_of, choice_of, subscript_reader, subscripts_reader, opened_reader, operand_reader, level_reader, product_of, binary_reader, choice_reader, operand_at, expression_at, product_at, subscripts_at, target_of, target_at}
-use Rattle.species_parser.proofs.Words.{mark_is_word, keyword_is_word, binary_is_word, operator_is, operator_own, operator_says, never, clash, mark_apart}
+use Rattle.species_parser.specs.Words.{when, the_keyword, binary_operators, of_level, operators_at, is_mark, is_the_keyword, is_type, of_least_level, goes_on}
+use Rattle.species_parser.specs.Reading.{of_kind, unsigned_of, type_reader, operation_of, level_reader}
+use Rattle.species_parser.proofs.Words.{keyword_is_word, operator_is, operator_own, operator_says, never, clash, mark_apart}
 
 -- ---- types
 
@@ -55,12 +47,12 @@ type_full p k front rest (TypeSpecifier.unsigned_int q r) h = inr (refl, ((q, So
 pub type_lawful : Lawful type_reader (plain TypeSpelled) TypeBefore TypeSpelled
 type_lawful =
     recast_plain type_reader _ _ TypeBefore _ TypeSpelled
-        (choose_lawful (is_the_keyword "int") (mapped (of_kind kind.Int) (word (the_keyword "int"))) (mapped unsigned_of (both (word (the_keyword "unsigned")) (maybe_word (the_keyword "int")))) _ _ _ _ _ _
-          (mapped_lawful (of_kind kind.Int) (word (the_keyword "int")) _ _ _ (word_lawful (the_keyword "int") (keyword_is_word "int")))
-          (mapped_lawful unsigned_of (both (word (the_keyword "unsigned")) (maybe_word (the_keyword "int"))) _ _ _
-            (both_lawful (word (the_keyword "unsigned")) (maybe_word (the_keyword "int")) _ _ _ _ _ _ (word_lawful (the_keyword "unsigned") (keyword_is_word "unsigned")) (maybe_word_lawful (the_keyword "int") (keyword_is_word "int")))))
-        (λ x front rest h. type_full x.0 x.1 front rest h.0 h.1)
-        type_viable
+    (choose_lawful (is_the_keyword "int") (mapped (of_kind kind.Int) (word (the_keyword "int"))) (mapped unsigned_of (both (word (the_keyword "unsigned")) (maybe_word (the_keyword "int")))) _ _ _ _ _ _
+    (mapped_lawful (of_kind kind.Int) (word (the_keyword "int")) _ _ _ (word_lawful (the_keyword "int") (keyword_is_word "int")))
+    (mapped_lawful unsigned_of (both (word (the_keyword "unsigned")) (maybe_word (the_keyword "int"))) _ _ _
+    (both_lawful (word (the_keyword "unsigned")) (maybe_word (the_keyword "int")) _ _ _ _ _ _ (word_lawful (the_keyword "unsigned") (keyword_is_word "unsigned")) (maybe_word_lawful (the_keyword "int") (keyword_is_word "int")))))
+    (λ x front rest h. type_full x.0 x.1 front rest h.0 h.1)
+    type_viable
 
 pub some_type : (p : ℕ) (k : Kind) (ks rest : List Token) → TypeSpecifier p k ks → starts is_type (ks ++ rest) ≡ true
 some_type p k ks rest (TypeSpecifier.int q) = refl
@@ -127,9 +119,9 @@ then_no_question (t ∷ ts) h = (or_false (of_least_level 0 (binary_operators.sa
 pub operator_stops : (n : ℕ) (t : Token) (o : ℕ × Operation) → binary_operators.says t ≡ Some o → level_of o.1 ≡ n → goes_on (suc n) t ≡ false
 operator_stops n t o h l =
     or_both (is_mark "[" t) _ (mark_apart binary_operators "[" t o h (λ q. refl))
-      (or_both (of_least_level (suc n) (binary_operators.says t)) _
-        (ap (of_least_level (suc n)) h ∙ never (nat_le (suc n) (level_of o.1)) (λ e. let le = leb-true (suc n) (level_of o.1) e in omega (arith, le, l)))
-        (ap (λ z. z && is_mark "?" t) (not_zero n)))
+    (or_both (of_least_level (suc n) (binary_operators.says t)) _
+    (ap (of_least_level (suc n)) h ∙ never (nat_le (suc n) (level_of o.1)) (λ e. let le = leb-true (suc n) (level_of o.1) e in omega (arith, le, l)))
+    (ap (λ z. z && is_mark "?" t) (not_zero n)))
 
 -- ---- levels
 
@@ -179,14 +171,15 @@ pub level_law : (m n : ℕ) → 1 ≤ n → n ≤ 10 → (r : Reader Token RawEx
 level_law m n lo hi r l =
     let some = some_operator n lo hi in
     recast_plain (level_reader m n r) _ _ (ExprBefore m n) _ (Expression n)
-        (level_lawful operation_of m (λ t. is_some (operators_at n t)) (one (operators_at n)) r (Expression (suc n)) (OperatorOf n) (goes_on (suc n))
-          (one_lawful (operators_at n) some.0 some.1 some.2) l
-          (λ o a rest (t, i, h). let k = operator_is n t o h in
-            (ap (λ z. starts (λ u. is_some (operators_at n u)) (z ++ rest)) i ∙ ap is_some h,
-              ap (λ z. starts (goes_on (suc n)) (z ++ rest)) i ∙ operator_stops n t o (operator_says n t o h) k.1,
-              (let e = ap length i in omega (arith, e)))))
-        (λ x front rest h. (level_from n x front h.0 lo hi, h.1, then_higher n rest h.2, then_no_operator n rest h.2))
-        (λ x front d. level_to n x front d)
+    (level_lawful operation_of m (λ t. is_some (operators_at n t)) (one (operators_at n)) r (Expression (suc n)) (OperatorOf n) (goes_on (suc n))
+    (one_lawful (operators_at n) some.0 some.1 some.2) l
+    (λ o a rest (t, i, h). let k = operator_is n t o h in (
+      ap (λ z. starts (λ u. is_some (operators_at n u)) (z ++ rest)) i ∙ ap is_some h,
+      ap (λ z. starts (goes_on (suc n)) (z ++ rest)) i ∙ operator_stops n t o (operator_says n t o h) k.1,
+      (let e = ap length i in omega (arith, e)),
+    )))
+    (λ x front rest h. (level_from n x front h.0 lo hi, h.1, then_higher n rest h.2, then_no_operator n rest h.2))
+    (λ x front d. level_to n x front d)
 
 pub then_any : (n : ℕ) (rest : List Token) → starts (goes_on 0) rest ≡ false → starts (goes_on n) rest ≡ false
 then_any zero rest h = h

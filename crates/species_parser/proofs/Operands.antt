@@ -1,16 +1,14 @@
 -- Operands, choices and whole expressions: their readers are lawful.
-use Rattle.std.proofs.Common.{◌≡◌, ◌∙◌, ap, sym, refl, subst, ℕ, zero, suc, ◌+◌, ◌<◌, ◌≤◌, List, [], ◌∷◌, ◌++◌, length, Option, Some, None, Bool, true, false, arith, length-append, append_assoc, append-nil, inl, inr}
-use Rattle.std.specs.Prelude.{◌⊎◌, is_some, nat_eq, nat_le}
-use Rattle.species_grammar.specs.Reader.{Reader, Word, is_of, starts, one, word, both, mapped, choose, skip, ends, maybe, maybe_word, cons_of, too_shallow, many, level}
-use Rattle.species_grammar.specs.Lawful.{Spelled, Before, IsWord, Lawful, plain, one_spelled, word_spelled, both_before, both_spelled, mapped_before, mapped_spelled, choose_before, choose_spelled, skip_before, skip_spelled, ends_before, ends_spelled, maybe_before, maybe_spelled, maybe_word_before, maybe_word_spelled, Short, many_before, many_spelled}
+use Rattle.std.proofs.Common.{◌≡◌, ◌∙◌, ap, sym, refl, subst, ℕ, zero, suc, ◌+◌, ◌<◌, ◌≤◌, List, [], ◌∷◌, ◌++◌, length, Some, None, false, arith, length-append, append_assoc, append-nil, inl, inr}
+use Rattle.species_grammar.specs.Reader.{Reader, is_of, starts, word, both, mapped, choose, skip, ends, maybe}
+use Rattle.species_grammar.specs.Lawful.{Spelled, Before, Lawful, plain, word_spelled, both_before, both_spelled, mapped_before, mapped_spelled, choose_before, choose_spelled, skip_before, skip_spelled, ends_before, ends_spelled, maybe_before, maybe_spelled, Short, many_before, many_spelled}
 use Rattle.species_grammar.proofs.Laws.{recast_plain, both_lawful, mapped_lawful, word_lawful, choose_lawful, skip_lawful, ends_lawful, maybe_lawful, many_lawful, shallow_lawful, its_own}
 use Rattle.species_ast.specs.Token.{Token}
 use Rattle.species_ast.specs.Spelling.{Spelling}
-use Rattle.species_ast.specs.Grammar.Words.{punctuator, keyword, name, number}
+use Rattle.species_ast.specs.Grammar.Words.{punctuator, name, number}
 use Rattle.species_ast.specs.Grammar.Expressions.{TypeSpecifier, Operation, level_of, binary_sign, unary_sign, expression, place_of, target, Expression, Subscripts, Target}
 use Rattle.species_ast.specs.declared.tree.Kind.{Kind}
 use Rattle.species_ast.specs.declared.tree.Value.{Value}
-use Rattle.species_ast.specs.declared.tree.Value.TheVariants as value
 use Rattle.species_ast.specs.declared.tree.Binary.TheVariants as binary
 use Rattle.species_ast.specs.declared.raw.RawUnary.{RawUnary}
 use Rattle.species_ast.specs.declared.raw.RawExpr.{RawExpr}
@@ -18,7 +16,7 @@ use Rattle.species_ast.specs.declared.raw.RawTerm.{RawTerm}
 use Rattle.species_ast.specs.declared.raw.RawTerm.TheVariants as term
 use Rattle.species_ast.specs.declared.raw.RawTarget.{RawTarget}
 use Rattle.species_parser.specs.Words.{the_mark, unary_operators, names, numbers, is_mark, is_type, goes_on}
-use Rattle.species_parser.specs.Reading.{type_reader, number_of, element_of, unary_of, cast_of, opened_of, choice_of, subscript_reader, subscripts_reader, opened_reader, operand_reader, level_reader, product_of, binary_reader, choice_reader, operand_at, expression_at, product_at, subscripts_at, target_of, target_at}
+use Rattle.species_parser.specs.Reading.{type_reader, number_of, element_of, unary_of, cast_of, opened_of, choice_of, subscript_reader, subscripts_reader, opened_reader, operand_reader, level_reader, binary_reader, choice_reader, operand_at, expression_at, product_at, subscripts_at, target_of, target_at}
 use Rattle.species_parser.proofs.Words.{mark_is_word, unary_is_word, name_is_word, number_is_word}
 use Rattle.species_parser.proofs.Expressions.{TypeSpelled, TypeBefore, type_lawful, some_type, ExprBefore, ExprLaw, level_law, then_no_bracket, then_higher, then_no_question}
 
@@ -61,9 +59,9 @@ module _ (m : ℕ) (e : Reader Token RawExpr) (l : ExprLaw m 0 e) where
   pub subs_law : Lawful (subscripts_reader m e) (plain Subscripts) (SubsBefore m) Subscripts
   subs_law =
       recast_plain (subscripts_reader m e) _ _ (SubsBefore m) _ Subscripts
-          (many_lawful (subscript_reader e) (is_mark "[") _ _ _ subscript_law (λ x a rest h. ap (λ z. starts (is_mark "[") (z ++ rest)) h.2) m)
-          (λ xs front rest h. subs_full m xs front rest h.0 h.1 h.2)
-          subs_viable
+      (many_lawful (subscript_reader e) (is_mark "[") _ _ _ subscript_law (λ x a rest h. ap (λ z. starts (is_mark "[") (z ++ rest)) h.2) m)
+      (λ xs front rest h. subs_full m xs front rest h.0 h.1 h.2)
+      subs_viable
 
 -- ---- what an operand is
 
@@ -148,20 +146,20 @@ module _ (n : ℕ) (u e : Reader Token RawExpr) (lu : ExprLaw n 11 u) (le : Expr
   opened_law : Lawful (opened_reader u e) OpenedS OpenedF OpenedV
   opened_law =
       choose_lawful is_type (mapped cast_of (both (ends type_reader (the_mark ")")) u)) (mapped term.Paren (ends e (the_mark ")"))) _ _ _ _ _ _
-        (mapped_lawful cast_of (both (ends type_reader (the_mark ")")) u) _ _ _ (both_lawful (ends type_reader (the_mark ")")) u _ _ _ _ _ _ (ends_lawful type_reader (the_mark ")") (mark_is_word ")") _ _ _ type_lawful) lu))
-        (mapped_lawful term.Paren (ends e (the_mark ")")) _ _ _ (ends_lawful e (the_mark ")") (mark_is_word ")") _ _ _ le))
+      (mapped_lawful cast_of (both (ends type_reader (the_mark ")")) u) _ _ _ (both_lawful (ends type_reader (the_mark ")")) u _ _ _ _ _ _ (ends_lawful type_reader (the_mark ")") (mark_is_word ")") _ _ _ type_lawful) lu))
+      (mapped_lawful term.Paren (ends e (the_mark ")")) _ _ _ (ends_lawful e (the_mark ")") (mark_is_word ")") _ _ _ le))
 
   abbrev OperandV : Spelled Token RawExpr
   OperandV = choose_spelled (mapped_spelled number_of (word_spelled numbers))
       (choose_spelled (mapped_spelled unary_of (both_spelled (word_spelled unary_operators) (Expression 11)))
-        (choose_spelled (mapped_spelled opened_of (both_spelled (word_spelled (the_mark "(")) OpenedV))
-          (mapped_spelled element_of (both_spelled (word_spelled names) Subscripts))))
+      (choose_spelled (mapped_spelled opened_of (both_spelled (word_spelled (the_mark "(")) OpenedV))
+      (mapped_spelled element_of (both_spelled (word_spelled names) Subscripts))))
 
   abbrev OperandF : Before Token RawExpr
   OperandF = choose_before (is_of numbers) (mapped_before number_of (plain (word_spelled numbers)))
       (choose_before (is_of unary_operators) (mapped_before unary_of (both_before (plain (word_spelled unary_operators)) (ExprBefore n 11)))
-        (choose_before (is_mark "(") (mapped_before opened_of (both_before (plain (word_spelled (the_mark "("))) OpenedF))
-          (mapped_before element_of (both_before (plain (word_spelled names)) (SubsBefore n)))))
+      (choose_before (is_mark "(") (mapped_before opened_of (both_before (plain (word_spelled (the_mark "("))) OpenedF))
+      (mapped_before element_of (both_before (plain (word_spelled names)) (SubsBefore n)))))
 
   cast_is : (p q : ℕ) (c : (ℕ × Kind) × RawExpr) (front a b f g ks : List Token) → front ≡ a ++ b → a ≡ punctuator p "(" ∷ [] → b ≡ f ++ g → f ≡ ks ++ punctuator q ")" ∷ [] → TypeSpelled c.0 ks → Expression 11 c.1 g → Expression 11 (expression p (cast_of c)) front
   cast_is p q c front a b f g ks i j k m kd xd =
@@ -191,14 +189,50 @@ module _ (n : ℕ) (u e : Reader Token RawExpr) (lu : ExprLaw n 11 u) (le : Expr
       let l0 = length-append (ks ++ punctuator r ")" ∷ []) ys in
       let len : length ys < n = omega (arith, lt, l0) in
       let first = ap (starts is_type) (append_assoc (ks ++ punctuator r ")" ∷ []) ys rest ∙ append_assoc ks (punctuator r ")" ∷ []) (ys ++ rest)) ∙ some_type q k ks (punctuator r ")" ∷ (ys ++ rest)) kd in
-      inr (refl, inr (refl, inl (refl, ((p, term.Cast k y), refl, (punctuator p "(" ∷ [], (ks ++ punctuator r ")" ∷ []) ++ ys, refl, refl,
-        inl (first, (((q, k), y), refl, (ks ++ punctuator r ")" ∷ [], ys, refl, (r, ks, refl, (kd, refl)), (d, len, h)))))))))
+      inr (
+        refl,
+        inr (
+          refl,
+          inl (
+            refl,
+            (
+              (p, term.Cast k y),
+              refl,
+              (
+                punctuator p "(" ∷ [],
+                (ks ++ punctuator r ")" ∷ []) ++ ys,
+                refl,
+                refl,
+                inl (first, (((q, k), y), refl, (ks ++ punctuator r ")" ∷ [], ys, refl, (r, ks, refl, (kd, refl)), (d, len, h)))),
+              ),
+            ),
+          ),
+        ),
+      )
   operand_full x front rest (Operand.paren p q y ys d) lt h =
       let l0 = length-append ys (punctuator q ")" ∷ []) in
       let len : length ys < n = omega (arith, lt, l0) in
       let first = ap (starts is_type) (append_assoc ys (punctuator q ")" ∷ []) rest) ∙ no_type 0 y ys (punctuator q ")" ∷ rest) d in
-      inr (refl, inr (refl, inl (refl, ((p, term.Paren y), refl, (punctuator p "(" ∷ [], ys ++ punctuator q ")" ∷ [], refl, refl,
-        inr (first, (y, refl, (q, ys, refl, (d, len, refl)))))))))
+      inr (
+        refl,
+        inr (
+          refl,
+          inl (
+            refl,
+            (
+              (p, term.Paren y),
+              refl,
+              (
+                punctuator p "(" ∷ [],
+                ys ++ punctuator q ")" ∷ [],
+                refl,
+                refl,
+                inr (first, (y, refl, (q, ys, refl, (d, len, refl)))),
+              ),
+            ),
+          ),
+        ),
+      )
   operand_full x front rest (Operand.element m subs ts s) lt h =
       let len : length ts < n = omega (arith, lt) in
       inr (refl, inr (refl, inr (refl, ((m, subs), refl, (name m ∷ [], ts, refl, refl, (s, len, then_no_bracket 11 rest h))))))
@@ -206,15 +240,15 @@ module _ (n : ℕ) (u e : Reader Token RawExpr) (lu : ExprLaw n 11 u) (le : Expr
   pub operand_law : ExprLaw (suc n) 11 (operand_reader n u e)
   operand_law =
       recast_plain (operand_reader n u e) _ _ (ExprBefore (suc n) 11) _ (Expression 11)
-          (choose_lawful (is_of numbers) (mapped number_of (word numbers)) (choose (is_of unary_operators) (mapped unary_of (both (word unary_operators) u)) (choose (is_mark "(") (mapped opened_of (both (word (the_mark "(")) (opened_reader u e))) (mapped element_of (both (word names) (subscripts_reader n e))))) _ _ _ _ _ _
-            (mapped_lawful number_of (word numbers) _ _ _ (word_lawful numbers number_is_word))
-            (choose_lawful (is_of unary_operators) (mapped unary_of (both (word unary_operators) u)) (choose (is_mark "(") (mapped opened_of (both (word (the_mark "(")) (opened_reader u e))) (mapped element_of (both (word names) (subscripts_reader n e)))) _ _ _ _ _ _
-              (mapped_lawful unary_of (both (word unary_operators) u) _ _ _ (both_lawful (word unary_operators) u _ _ _ _ _ _ (word_lawful unary_operators unary_is_word) lu))
-              (choose_lawful (is_mark "(") (mapped opened_of (both (word (the_mark "(")) (opened_reader u e))) (mapped element_of (both (word names) (subscripts_reader n e))) _ _ _ _ _ _
-                (mapped_lawful opened_of (both (word (the_mark "(")) (opened_reader u e)) _ _ _ (both_lawful (word (the_mark "(")) (opened_reader u e) _ _ _ _ _ _ (word_lawful (the_mark "(") (mark_is_word "(")) opened_law))
-                (mapped_lawful element_of (both (word names) (subscripts_reader n e)) _ _ _ (both_lawful (word names) (subscripts_reader n e) _ _ _ _ _ _ (word_lawful names name_is_word) (subs_law n e le))))))
-          (λ x front rest h. operand_full x front rest (eleven x front h.0) h.1 h.2)
-          operand_viable
+      (choose_lawful (is_of numbers) (mapped number_of (word numbers)) (choose (is_of unary_operators) (mapped unary_of (both (word unary_operators) u)) (choose (is_mark "(") (mapped opened_of (both (word (the_mark "(")) (opened_reader u e))) (mapped element_of (both (word names) (subscripts_reader n e))))) _ _ _ _ _ _
+      (mapped_lawful number_of (word numbers) _ _ _ (word_lawful numbers number_is_word))
+      (choose_lawful (is_of unary_operators) (mapped unary_of (both (word unary_operators) u)) (choose (is_mark "(") (mapped opened_of (both (word (the_mark "(")) (opened_reader u e))) (mapped element_of (both (word names) (subscripts_reader n e)))) _ _ _ _ _ _
+      (mapped_lawful unary_of (both (word unary_operators) u) _ _ _ (both_lawful (word unary_operators) u _ _ _ _ _ _ (word_lawful unary_operators unary_is_word) lu))
+      (choose_lawful (is_mark "(") (mapped opened_of (both (word (the_mark "(")) (opened_reader u e))) (mapped element_of (both (word names) (subscripts_reader n e))) _ _ _ _ _ _
+      (mapped_lawful opened_of (both (word (the_mark "(")) (opened_reader u e)) _ _ _ (both_lawful (word (the_mark "(")) (opened_reader u e) _ _ _ _ _ _ (word_lawful (the_mark "(") (mark_is_word "(")) opened_law))
+      (mapped_lawful element_of (both (word names) (subscripts_reader n e)) _ _ _ (both_lawful (word names) (subscripts_reader n e) _ _ _ _ _ _ (word_lawful names name_is_word) (subs_law n e le))))))
+      (λ x front rest h. operand_full x front rest (eleven x front h.0) h.1 h.2)
+      operand_viable
     where
       eleven : (x : RawExpr) (front : List Token) → Expression 11 x front → Operand x front
       eleven x front d = let l : 11 ≤ 11 = omega arith in operand_from 11 x front d l
@@ -224,7 +258,7 @@ module _ (n : ℕ) (u e : Reader Token RawExpr) (lu : ExprLaw n 11 u) (le : Expr
 pub binary_law : (m : ℕ) (u : Reader Token RawExpr) → ExprLaw m 11 u → ExprLaw m 1 (binary_reader m u)
 binary_law m u l =
     step 1 (omega arith) (omega arith) _ (step 2 (omega arith) (omega arith) _ (step 3 (omega arith) (omega arith) _ (step 4 (omega arith) (omega arith) _ (step 5 (omega arith) (omega arith) _
-      (step 6 (omega arith) (omega arith) _ (step 7 (omega arith) (omega arith) _ (step 8 (omega arith) (omega arith) _ (step 9 (omega arith) (omega arith) _ (step 10 (omega arith) (omega arith) u l)))))))))
+    (step 6 (omega arith) (omega arith) _ (step 7 (omega arith) (omega arith) _ (step 8 (omega arith) (omega arith) _ (step 9 (omega arith) (omega arith) _ (step 10 (omega arith) (omega arith) u l)))))))))
   where
     step : (n : ℕ) → 1 ≤ n → n ≤ 10 → (r : Reader Token RawExpr) → ExprLaw m (suc n) r → ExprLaw m n (level_reader m n r)
     step = level_law m
@@ -256,7 +290,7 @@ module _ (n : ℕ) (u e : Reader Token RawExpr) (lu : ExprLaw (suc n) 11 u) (le 
       subst (λ z. Expression 0 z front) y (subst (Expression 0 c) (sym (i ∙ ap (λ z. a ++ z) j ∙ append-nil a)) (Expression.higher 0 c a d))
   choice_viable x front ((c, Some s), y, (a, b, i, d, (p, b', j, (xs, r, k, xd, (q, ys, m, yd))))) =
       subst (λ z. Expression 0 z front) y
-        (subst (Expression 0 (choice_of (c, Some s))) (sym (i ∙ ap (λ z. a ++ z) (j ∙ ap (λ z. punctuator p "?" ∷ z) (k ∙ ap (λ z. xs ++ z) m)))) (Expression.conditional p q c s.0 s.1 a xs ys d xd yd))
+      (subst (Expression 0 (choice_of (c, Some s))) (sym (i ∙ ap (λ z. a ++ z) (j ∙ ap (λ z. punctuator p "?" ∷ z) (k ∙ ap (λ z. xs ++ z) m)))) (Expression.conditional p q c s.0 s.1 a xs ys d xd yd))
 
   choice_full : (x : RawExpr) (front rest : List Token) → Choice x front → length front < suc n → starts (goes_on 0) rest ≡ false → mapped_before choice_of (both_before (ExprBefore (suc n) 1) (maybe_before (the_mark "?") ArmsF)) x front rest
   choice_full x front rest (Choice.plain_one y ys d) lt h = ((y, None), refl, (front, [], sym (append-nil front), (d, lt, then_higher 0 rest h), (refl, then_no_question rest h)))
@@ -271,11 +305,11 @@ module _ (n : ℕ) (u e : Reader Token RawExpr) (lu : ExprLaw (suc n) 11 u) (le 
   pub choice_law : ExprLaw (suc n) 0 (choice_reader (suc n) u e)
   choice_law =
       recast_plain (choice_reader (suc n) u e) _ _ (ExprBefore (suc n) 0) _ (Expression 0)
-          (mapped_lawful choice_of (both (binary_reader (suc n) u) (maybe (the_mark "?") (both e (skip (the_mark ":") e)))) _ _ _
-            (both_lawful (binary_reader (suc n) u) (maybe (the_mark "?") (both e (skip (the_mark ":") e))) _ _ _ _ _ _ (binary_law (suc n) u lu)
-              (maybe_lawful (the_mark "?") (mark_is_word "?") (both e (skip (the_mark ":") e)) _ _ _ (both_lawful e (skip (the_mark ":") e) _ _ _ _ _ _ le (skip_lawful (the_mark ":") (mark_is_word ":") e _ _ _ le)))))
-          (λ x front rest h. choice_full x front rest (choice_from 0 x front h.0 refl) h.1 h.2)
-          choice_viable
+      (mapped_lawful choice_of (both (binary_reader (suc n) u) (maybe (the_mark "?") (both e (skip (the_mark ":") e)))) _ _ _
+      (both_lawful (binary_reader (suc n) u) (maybe (the_mark "?") (both e (skip (the_mark ":") e))) _ _ _ _ _ _ (binary_law (suc n) u lu)
+      (maybe_lawful (the_mark "?") (mark_is_word "?") (both e (skip (the_mark ":") e)) _ _ _ (both_lawful e (skip (the_mark ":") e) _ _ _ _ _ _ le (skip_lawful (the_mark ":") (mark_is_word ":") e _ _ _ le)))))
+      (λ x front rest h. choice_full x front rest (choice_from 0 x front h.0 refl) h.1 h.2)
+      choice_viable
 
 -- ---- expressions of every depth
 
@@ -293,9 +327,10 @@ raised zero n x xs d = let e : 0 + n ≡ n = omega arith in subst (λ m. Express
 raised (suc k) n x xs d = let e : suc k + n ≡ suc (k + n) = omega arith in raised k n x xs (Expression.higher (k + n) x xs (subst (λ m. Expression m x xs) e d))
 
 pub expression_laws : (n : ℕ) → ExprLaw n 11 (operand_at n) × ExprLaw n 0 (expression_at n)
-expression_laws zero =
-    (shallow_lawful (plain (Expression 11)) (ExprBefore 0 11) (Expression 11) _ _ (raised 1 11 _ _ some_element) (λ x front rest h. h) (nothing_shallow 11),
-      shallow_lawful (plain (Expression 0)) (ExprBefore 0 0) (Expression 0) _ _ (raised 12 0 _ _ some_element) (λ x front rest h. h) (nothing_shallow 0))
+expression_laws zero = (
+  shallow_lawful (plain (Expression 11)) (ExprBefore 0 11) (Expression 11) _ _ (raised 1 11 _ _ some_element) (λ x front rest h. h) (nothing_shallow 11),
+  shallow_lawful (plain (Expression 0)) (ExprBefore 0 0) (Expression 0) _ _ (raised 12 0 _ _ some_element) (λ x front rest h. h) (nothing_shallow 0),
+)
 expression_laws (suc n) =
     let h = expression_laws n in
     let u = operand_law n (operand_at n) (expression_at n) h.0 h.1 in
@@ -324,6 +359,6 @@ target_full n t front rest (Target.element m subs ts s) lt h = let len : length 
 pub target_lawful : (n : ℕ) → Lawful (target_at n) (plain Target) (TargetBefore n) Target
 target_lawful n =
     recast_plain (target_at n) _ _ (TargetBefore n) _ Target
-        (mapped_lawful target_of (both (word names) (subscripts_at n)) _ _ _ (both_lawful (word names) (subscripts_at n) _ _ _ _ _ _ (word_lawful names name_is_word) (subscripts_lawful n)))
-        (λ t front rest h. target_full n t front rest h.0 h.1 h.2)
-        (λ t front (p, y, (a, b, i, j, d)). subst (λ z. Target z front) y (subst (Target (target_of p)) (sym (i ∙ ap (λ z. z ++ b) j)) (Target.element p.0 p.1 b d)))
+    (mapped_lawful target_of (both (word names) (subscripts_at n)) _ _ _ (both_lawful (word names) (subscripts_at n) _ _ _ _ _ _ (word_lawful names name_is_word) (subscripts_lawful n)))
+    (λ t front rest h. target_full n t front rest h.0 h.1 h.2)
+    (λ t front (p, y, (a, b, i, j, d)). subst (λ z. Target z front) y (subst (Target (target_of p)) (sym (i ∙ ap (λ z. z ++ b) j)) (Target.element p.0 p.1 b d)))

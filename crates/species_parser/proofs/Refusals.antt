@@ -27,7 +27,7 @@ WrongAt size ts place = (back : List Token) × IsWrongBefore ts back × (place_b
 wrong : (n size : ℕ) (ts back : List Token) → length ts < n → whole (unit_at n) ts ≡ Answer.stuck back → WrongAt size ts (place_before size back)
 wrong n size ts back lt h = (back, stuck_is_wrong n ts back lt h, refl)
 
--- 
+--
 abbrev nothing_at_all_tokens : List Token
 nothing_at_all_tokens =
     []

@@ -1,28 +1,26 @@
 -- The readers of statements are lawful.
-use Rattle.std.proofs.Common.{◌≡◌, ◌∙◌, ap, sym, refl, subst, ℕ, zero, suc, ◌+◌, ◌<◌, ◌≤◌, List, [], ◌∷◌, ◌++◌, length, Option, Some, None, Bool, true, false, arith, length-append, append_assoc, append-nil, inl, inr}
-use Rattle.std.specs.Prelude.{◌⊎◌}
-use Rattle.species_grammar.specs.Reader.{Reader, Word, is_of, starts, word, both, mapped, choose, skip, ends, maybe, maybe_word, until}
-use Rattle.species_grammar.specs.Lawful.{Spelled, Before, IsWord, Lawful, plain, word_spelled, both_before, both_spelled, mapped_before, mapped_spelled, choose_before, choose_spelled, skip_before, skip_spelled, ends_before, ends_spelled, maybe_before, maybe_spelled, maybe_word_before, Short, until_before, until_spelled}
+use Rattle.std.proofs.Common.{◌≡◌, ◌∙◌, ap, sym, refl, subst, ℕ, zero, suc, ◌<◌, ◌≤◌, List, [], ◌∷◌, ◌++◌, length, Option, Some, None, Bool, true, false, arith, length-append, append_assoc, append-nil, inl, inr}
+use Rattle.species_grammar.specs.Reader.{is_of, starts, word, both, mapped, choose, skip, ends, maybe, maybe_word}
+use Rattle.species_grammar.specs.Lawful.{Spelled, Before, Lawful, plain, word_spelled, both_before, both_spelled, mapped_before, mapped_spelled, choose_before, choose_spelled, skip_before, skip_spelled, ends_before, ends_spelled, maybe_before, maybe_spelled, maybe_word_before, Short, until_before, until_spelled}
 use Rattle.species_grammar.proofs.Laws.{recast, recast_plain, both_with, both_lawful, mapped_lawful, word_lawful, choose_lawful, skip_lawful, ends_lawful, maybe_lawful, until_lawful, shallow_lawful}
 use Rattle.species_ast.specs.Token.{Token}
 use Rattle.species_ast.specs.Spelling.{Spelling}
 use Rattle.species_ast.specs.Grammar.Words.{punctuator, keyword, name, species, parallel, atomic}
 use Rattle.species_ast.specs.Grammar.Expressions.{Expression, Target}
 use Rattle.species_ast.specs.Grammar.Declarations.{LocalDeclaration, statement}
-use Rattle.species_ast.specs.Grammar.Statements.{target_place, Change, Header, ForHeader, SpeciesLine, ParallelLine, loop, Statement, BlockItems}
+use Rattle.species_ast.specs.Grammar.Statements.{Change, Header, ForHeader, SpeciesLine, ParallelLine, loop, Statement, BlockItems}
 use Rattle.species_ast.specs.declared.tree.Schedule.{Schedule}
 use Rattle.species_ast.specs.declared.raw.RawExpr.{RawExpr}
-use Rattle.species_ast.specs.declared.raw.RawTarget.{RawTarget}
 use Rattle.species_ast.specs.declared.raw.RawChange.{RawChange}
 use Rattle.species_ast.specs.declared.raw.RawStmt.{RawStmt}
 use Rattle.species_ast.specs.declared.raw.RawWhat.TheVariants as what
 use Rattle.species_parser.specs.Words.{the_mark, the_keyword, species_lines, parallel_lines, atomic_lines, is_mark, is_the_keyword, is_type, is_loop}
-use Rattle.species_parser.specs.Reading.{expression_at, target_at, declaration_at, change_at, assignment_of, assignment_at, atomic_of, atomic_at, header_at, parallel_of, parallel_reader, loop_of, loop_at, condition_at, if_of, if_at, items_at, block_of, block_at, empty_of, node_at, statement_at}
+use Rattle.species_parser.specs.Reading.{expression_at, target_at, declaration_at, change_at, assignment_of, assignment_at, atomic_of, atomic_at, header_at, parallel_of, parallel_reader, loop_of, loop_at, condition_at, if_of, if_at, items_at, block_of, block_at, empty_of, statement_at}
 use Rattle.species_parser.proofs.Words.{mark_is_word, keyword_is_word, atomic_is_word, clash}
 use Rattle.species_parser.proofs.Expressions.{ExprBefore}
 use Rattle.species_parser.proofs.Operands.{TargetBefore, target_lawful, expression_lawful}
 use Rattle.species_parser.proofs.Declarations.{DeclarationBefore, declaration_lawful, declaration_starts}
-use Rattle.species_parser.proofs.Headers.{ChangeSpelled, ChangeBefore, change_lawful, after_target, header_lawful, species_lawful, species_full, parallel_lawful, parallel_full}
+use Rattle.species_parser.proofs.Headers.{ChangeBefore, change_lawful, after_target, header_lawful, species_lawful, species_full, parallel_lawful, parallel_full}
 
 -- ---- the words
 
@@ -219,8 +217,8 @@ EmptyF = mapped_before empty_of (plain (word_spelled (the_mark ";")))
 empty_lawful : Lawful (mapped empty_of (word (the_mark ";"))) (plain Closed) EmptyF Closed
 empty_lawful =
     recast_plain (mapped empty_of (word (the_mark ";"))) _ _ _ _ Closed (mapped_lawful empty_of (word (the_mark ";")) _ _ _ (word_lawful (the_mark ";") (mark_is_word ";")))
-        (λ x front rest h. h)
-        (λ x front (p, y, h). subst (λ z. Closed z front) y (subst (Closed (empty_of p)) (sym h) (Statement.empty p)))
+    (λ x front rest h. h)
+    (λ x front (p, y, h). subst (λ z. Closed z front) y (subst (Closed (empty_of p)) (sym h) (Statement.empty p)))
 
 abbrev AssignF : ℕ → Before Token RawStmt
 AssignF n = mapped_before assignment_of (ends_before (ChangeBefore n) (the_mark ";"))
@@ -228,9 +226,9 @@ AssignF n = mapped_before assignment_of (ends_before (ChangeBefore n) (the_mark 
 assignment_lawful : (n : ℕ) → Lawful (assignment_at n) (plain Closed) (AssignF n) Closed
 assignment_lawful n =
     recast_plain (assignment_at n) _ _ _ _ Closed
-        (mapped_lawful assignment_of (ends (change_at n) (the_mark ";")) _ _ _ (ends_lawful (change_at n) (the_mark ";") (mark_is_word ";") _ _ _ (change_lawful n)))
-        (λ x front rest h. h)
-        (λ x front (p, y, (q, cs, i, d)). subst (λ z. Closed z front) y (subst (Closed (assignment_of p)) (sym i) (Statement.assignment p.0 q p.1 cs d)))
+    (mapped_lawful assignment_of (ends (change_at n) (the_mark ";")) _ _ _ (ends_lawful (change_at n) (the_mark ";") (mark_is_word ";") _ _ _ (change_lawful n)))
+    (λ x front rest h. h)
+    (λ x front (p, y, (q, cs, i, d)). subst (λ z. Closed z front) y (subst (Closed (assignment_of p)) (sym i) (Statement.assignment p.0 q p.1 cs d)))
 
 abbrev AtomicF : ℕ → Before Token RawStmt
 AtomicF n = skip_before atomic_lines (mapped_before atomic_of (both_before (TargetBefore n) (skip_before (the_mark "+=") (ends_before (ExprBefore n 0) (the_mark ";")))))
@@ -238,17 +236,17 @@ AtomicF n = skip_before atomic_lines (mapped_before atomic_of (both_before (Targ
 atomic_viable : (x : RawStmt) (front : List Token) → skip_spelled atomic_lines (mapped_spelled atomic_of (both_spelled Target (skip_spelled (the_mark "+=") (ends_spelled (Expression 0) (the_mark ";"))))) x front → Closed x front
 atomic_viable x front (n, b, i, (p, y, (ts, c, j, td, (q, d, k, (r, xs, m, xd))))) =
     subst (λ z. Closed z front) y
-      (subst (Closed (atomic_of p)) (sym (i ∙ ap (λ z. atomic n ∷ z) (j ∙ ap (λ z. ts ++ z) (k ∙ ap (λ z. punctuator q "+=" ∷ z) m)))) (Statement.atomic_assignment q r n p.0 p.1 ts xs td xd))
+    (subst (Closed (atomic_of p)) (sym (i ∙ ap (λ z. atomic n ∷ z) (j ∙ ap (λ z. ts ++ z) (k ∙ ap (λ z. punctuator q "+=" ∷ z) m)))) (Statement.atomic_assignment q r n p.0 p.1 ts xs td xd))
 
 atomic_lawful : (n : ℕ) → Lawful (atomic_at n) (plain Closed) (AtomicF n) Closed
 atomic_lawful n =
     recast_plain (atomic_at n) _ _ _ _ Closed
-        (skip_lawful atomic_lines atomic_is_word (mapped atomic_of (both (target_at n) (skip (the_mark "+=") (ends (expression_at n) (the_mark ";"))))) _ _ _
-          (mapped_lawful atomic_of (both (target_at n) (skip (the_mark "+=") (ends (expression_at n) (the_mark ";")))) _ _ _
-            (both_lawful (target_at n) (skip (the_mark "+=") (ends (expression_at n) (the_mark ";"))) _ _ _ _ _ _ (target_lawful n)
-              (skip_lawful (the_mark "+=") (mark_is_word "+=") (ends (expression_at n) (the_mark ";")) _ _ _ (ends_lawful (expression_at n) (the_mark ";") (mark_is_word ";") _ _ _ (expression_lawful n))))))
-        (λ x front rest h. h)
-        atomic_viable
+    (skip_lawful atomic_lines atomic_is_word (mapped atomic_of (both (target_at n) (skip (the_mark "+=") (ends (expression_at n) (the_mark ";"))))) _ _ _
+    (mapped_lawful atomic_of (both (target_at n) (skip (the_mark "+=") (ends (expression_at n) (the_mark ";")))) _ _ _
+    (both_lawful (target_at n) (skip (the_mark "+=") (ends (expression_at n) (the_mark ";"))) _ _ _ _ _ _ (target_lawful n)
+    (skip_lawful (the_mark "+=") (mark_is_word "+=") (ends (expression_at n) (the_mark ";")) _ _ _ (ends_lawful (expression_at n) (the_mark ";") (mark_is_word ";") _ _ _ (expression_lawful n))))))
+    (λ x front rest h. h)
+    atomic_viable
 
 -- ---- if
 
@@ -261,7 +259,7 @@ else_is : (b : Bool) (x : RawExpr) (s y : RawStmt) (r t v : ℕ) (front f a c d 
     → (q : ℕ) → Statement b (if_of (q, ((x, s), Some y))) (keyword q "if" ∷ front)
 else_is b x s y r t v front f a c d e g g' m u i j k xd sd yd q =
     subst (λ z. Statement b (if_of (q, ((x, s), Some y))) (keyword q "if" ∷ z)) (sym (m ∙ ap (λ z. f ++ z) u ∙ ap (λ z. z ++ keyword v "else" ∷ g') (i ∙ ap (λ z. z ++ c) (j ∙ ap (λ z. punctuator r "(" ∷ z) k))))
-      (Statement.if_else b q r t v x s y e c g' xd sd yd)
+    (Statement.if_else b q r t v x s y e c g' xd sd yd)
 
 -- the body before an else is closed
 shut : (o : Bool) (s : RawStmt) (b rest : List Token) (v : ℕ) → Statement o s b → (o ≡ true → NoElse (keyword v "else" ∷ rest)) → Statement false s b
@@ -302,15 +300,15 @@ module _ (n : ℕ) (l : StmtLaw n) where
   parts_lawful : Lawful (both (both (condition_at n) (statement_at n)) (maybe (the_keyword "else") (statement_at n))) IfS (PartsF n) IfV
   parts_lawful =
       recast (both (both (condition_at n) (statement_at n)) (maybe (the_keyword "else") (statement_at n))) PartsS _ IfS (PartsF n) IfV IfV
-          (both_with (both (condition_at n) (statement_at n)) (maybe (the_keyword "else") (statement_at n)) _ _ _ _ _ _
-            (both_lawful (condition_at n) (statement_at n) _ _ _ _ _ _ (condition_lawful n) l)
-            (maybe_lawful (the_keyword "else") (keyword_is_word "else") (statement_at n) _ _ _ l)
-            IfV if_early if_later
-            (λ p front rest h. let s = if_said p front rest h in (s.0, s.1)))
-          if_said
-          (λ p front rest h. h)
-          (λ p front h. h)
-          (λ p front rest h. (h.0, h.1))
+      (both_with (both (condition_at n) (statement_at n)) (maybe (the_keyword "else") (statement_at n)) _ _ _ _ _ _
+      (both_lawful (condition_at n) (statement_at n) _ _ _ _ _ _ (condition_lawful n) l)
+      (maybe_lawful (the_keyword "else") (keyword_is_word "else") (statement_at n) _ _ _ l)
+      IfV if_early if_later
+      (λ p front rest h. let s = if_said p front rest h in (s.0, s.1)))
+      if_said
+      (λ p front rest h. h)
+      (λ p front h. h)
+      (λ p front rest h. (h.0, h.1))
 
   abbrev IfF : Before Token RawStmt
   IfF = mapped_before if_of (both_before (plain (word_spelled (the_keyword "if"))) (PartsF n))
@@ -318,12 +316,12 @@ module _ (n : ℕ) (l : StmtLaw n) where
   if_lawful : Lawful (if_at n (statement_at n)) StmtS IfF StmtV
   if_lawful =
       recast (if_at n (statement_at n)) _ _ StmtS IfF _ StmtV
-          (mapped_lawful if_of (both (word (the_keyword "if")) (both (both (condition_at n) (statement_at n)) (maybe (the_keyword "else") (statement_at n)))) _ _ _
-            (both_lawful (word (the_keyword "if")) (both (both (condition_at n) (statement_at n)) (maybe (the_keyword "else") (statement_at n))) _ _ _ _ _ _ (word_lawful (the_keyword "if") (keyword_is_word "if")) parts_lawful))
-          (λ x front rest (p, y, (a, b, i, j, (o, d, h))). (o, subst (λ z. Statement o z front) y (subst (Statement o (if_of p)) (sym (i ∙ ap (λ z. z ++ b) j)) (d p.0)), h))
-          (λ x front rest h. h)
-          (λ x front (p, y, (a, b, i, j, (o, d))). (o, subst (λ z. Statement o z front) y (subst (Statement o (if_of p)) (sym (i ∙ ap (λ z. z ++ b) j)) (d p.0))))
-          (λ x front rest h. (h.0, h.1))
+      (mapped_lawful if_of (both (word (the_keyword "if")) (both (both (condition_at n) (statement_at n)) (maybe (the_keyword "else") (statement_at n)))) _ _ _
+      (both_lawful (word (the_keyword "if")) (both (both (condition_at n) (statement_at n)) (maybe (the_keyword "else") (statement_at n))) _ _ _ _ _ _ (word_lawful (the_keyword "if") (keyword_is_word "if")) parts_lawful))
+      (λ x front rest (p, y, (a, b, i, j, (o, d, h))). (o, subst (λ z. Statement o z front) y (subst (Statement o (if_of p)) (sym (i ∙ ap (λ z. z ++ b) j)) (d p.0)), h))
+      (λ x front rest h. h)
+      (λ x front (p, y, (a, b, i, j, (o, d))). (o, subst (λ z. Statement o z front) y (subst (Statement o (if_of p)) (sym (i ∙ ap (λ z. z ++ b) j)) (d p.0))))
+      (λ x front rest h. (h.0, h.1))
 
   -- ---- loops
 
@@ -339,27 +337,27 @@ module _ (n : ℕ) (l : StmtLaw n) where
   loop_lawful : Lawful (loop_at n (statement_at n)) StmtS LoopF StmtV
   loop_lawful =
       recast (loop_at n (statement_at n)) _ _ StmtS LoopF _ StmtV
-          (mapped_lawful loop_of (both (maybe_word species_lines) (both parallel_reader (both (word (the_keyword "for")) (both (header_at n) (statement_at n))))) _ _ _
-            (both_lawful (maybe_word species_lines) (both parallel_reader (both (word (the_keyword "for")) (both (header_at n) (statement_at n)))) _ _ _ _ _ _ species_lawful
-              (both_lawful parallel_reader (both (word (the_keyword "for")) (both (header_at n) (statement_at n))) _ _ _ _ _ _ parallel_lawful
-                (both_lawful (word (the_keyword "for")) (both (header_at n) (statement_at n)) _ _ _ _ _ _ (word_lawful (the_keyword "for") (keyword_is_word "for"))
-                  (both_lawful (header_at n) (statement_at n) _ _ _ _ _ _ (header_lawful n) l)))))
-          (λ x front rest (p, y, (ls, f1, i0, ld, (ms, f2, i1, md, (w, f3, i2, j2, (hs, ss, i3, hd, (o, sd, h)))))).
-            (o, subst (λ z. Statement o z front) y (loop_is o p.1.1.0 p.0 p.1.0 p.1.1.1.0 p.1.1.1.1 front ls f1 ms f2 w f3 hs ss i0 i1 i2 j2 i3 ld md hd sd), h))
-          (λ x front rest h. h)
-          (λ x front (p, y, (ls, f1, i0, ld, (ms, f2, i1, md, (w, f3, i2, j2, (hs, ss, i3, hd, (o, sd)))))).
-            (o, subst (λ z. Statement o z front) y (loop_is o p.1.1.0 p.0 p.1.0 p.1.1.1.0 p.1.1.1.1 front ls f1 ms f2 w f3 hs ss i0 i1 i2 j2 i3 ld md hd sd)))
-          (λ x front rest h. (h.0, h.1))
+      (mapped_lawful loop_of (both (maybe_word species_lines) (both parallel_reader (both (word (the_keyword "for")) (both (header_at n) (statement_at n))))) _ _ _
+      (both_lawful (maybe_word species_lines) (both parallel_reader (both (word (the_keyword "for")) (both (header_at n) (statement_at n)))) _ _ _ _ _ _ species_lawful
+      (both_lawful parallel_reader (both (word (the_keyword "for")) (both (header_at n) (statement_at n))) _ _ _ _ _ _ parallel_lawful
+      (both_lawful (word (the_keyword "for")) (both (header_at n) (statement_at n)) _ _ _ _ _ _ (word_lawful (the_keyword "for") (keyword_is_word "for"))
+      (both_lawful (header_at n) (statement_at n) _ _ _ _ _ _ (header_lawful n) l)))))
+      (λ x front rest (p, y, (ls, f1, i0, ld, (ms, f2, i1, md, (w, f3, i2, j2, (hs, ss, i3, hd, (o, sd, h)))))).
+      (o, subst (λ z. Statement o z front) y (loop_is o p.1.1.0 p.0 p.1.0 p.1.1.1.0 p.1.1.1.1 front ls f1 ms f2 w f3 hs ss i0 i1 i2 j2 i3 ld md hd sd), h))
+      (λ x front rest h. h)
+      (λ x front (p, y, (ls, f1, i0, ld, (ms, f2, i1, md, (w, f3, i2, j2, (hs, ss, i3, hd, (o, sd)))))).
+      (o, subst (λ z. Statement o z front) y (loop_is o p.1.1.0 p.0 p.1.0 p.1.1.1.0 p.1.1.1.1 front ls f1 ms f2 w f3 hs ss i0 i1 i2 j2 i3 ld md hd sd)))
+      (λ x front rest h. (h.0, h.1))
 
   -- ---- blocks
 
   pub items_lawful : Lawful (items_at n (statement_at n)) (plain BlockItems) (ItemsBefore n) BlockItems
   items_lawful =
       recast_plain (items_at n (statement_at n)) _ _ (ItemsBefore n) _ BlockItems
-          (until_lawful (choose is_type (declaration_at n) (statement_at n)) (the_mark "}") (mark_is_word "}") _ _ _
-            (choose_lawful is_type (declaration_at n) (statement_at n) _ _ _ _ _ _ (declaration_lawful n) l) (item_not_end n) n)
-          (λ xs front rest h. items_full n xs front rest h.0 h.1)
-          items_viable
+      (until_lawful (choose is_type (declaration_at n) (statement_at n)) (the_mark "}") (mark_is_word "}") _ _ _
+      (choose_lawful is_type (declaration_at n) (statement_at n) _ _ _ _ _ _ (declaration_lawful n) l) (item_not_end n) n)
+      (λ xs front rest h. items_full n xs front rest h.0 h.1)
+      items_viable
 
   abbrev BlockF : Before Token RawStmt
   BlockF = mapped_before block_of (both_before (plain (word_spelled (the_mark "{"))) (ItemsBefore n))
@@ -367,9 +365,9 @@ module _ (n : ℕ) (l : StmtLaw n) where
   block_lawful : Lawful (block_at n (statement_at n)) (plain Closed) BlockF Closed
   block_lawful =
       recast_plain (block_at n (statement_at n)) _ _ _ _ Closed
-          (mapped_lawful block_of (both (word (the_mark "{")) (items_at n (statement_at n))) _ _ _ (both_lawful (word (the_mark "{")) (items_at n (statement_at n)) _ _ _ _ _ _ (word_lawful (the_mark "{") (mark_is_word "{")) items_lawful))
-          (λ x front rest h. h)
-          (λ x front (p, y, (a, b, i, j, d)). subst (λ z. Closed z front) y (subst (Closed (block_of p)) (sym (i ∙ ap (λ z. z ++ b) j)) (Statement.block p.0 p.1 b d)))
+      (mapped_lawful block_of (both (word (the_mark "{")) (items_at n (statement_at n))) _ _ _ (both_lawful (word (the_mark "{")) (items_at n (statement_at n)) _ _ _ _ _ _ (word_lawful (the_mark "{") (mark_is_word "{")) items_lawful))
+      (λ x front rest h. h)
+      (λ x front (p, y, (a, b, i, j, d)). subst (λ z. Closed z front) y (subst (Closed (block_of p)) (sym (i ∙ ap (λ z. z ++ b) j)) (Statement.block p.0 p.1 b d)))
 
   -- ---- all
 
@@ -426,8 +424,32 @@ module _ (n : ℕ) (l : StmtLaw n) where
       let lx : length xs < n = omega (arith, lt, l0, l1) in
       let ls : length ss < n = omega (arith, lt, l0) in
       let here : List Token = (punctuator q "(" ∷ (xs ++ punctuator r ")" ∷ [])) ++ ss in
-      inr (refl, inr (refl, inl (refl, ((p, ((e, s), None)), refl, (keyword p "if" ∷ [], here, refl, refl, (here, [], sym (append-nil here),
-        (punctuator q "(" ∷ (xs ++ punctuator r ")" ∷ []), ss, refl, (q, xs ++ punctuator r ")" ∷ [], refl, (r, xs, refl, (xd, lx, refl))), (o', sd, (λ k. h refl), ls)), (refl, h refl)))))))
+      inr (
+        refl,
+        inr (
+          refl,
+          inl (
+            refl,
+            (
+              (p, ((e, s), None)),
+              refl,
+              (
+                keyword p "if" ∷ [],
+                here,
+                refl,
+                refl,
+                (
+                  here,
+                  [],
+                  sym (append-nil here),
+                  (punctuator q "(" ∷ (xs ++ punctuator r ")" ∷ []), ss, refl, (q, xs ++ punctuator r ")" ∷ [], refl, (r, xs, refl, (xd, lx, refl))), (o', sd, (λ k. h refl), ls)),
+                  (refl, h refl),
+                ),
+              ),
+            ),
+          ),
+        ),
+      )
   node_full o x front rest (Statement.if_else o' p q r v e s t xs ss ts xd sd td) h lt =
       let l0 = length-append (punctuator q "(" ∷ (xs ++ punctuator r ")" ∷ [])) ss in
       let l1 = length-append xs (punctuator r ")" ∷ []) in
@@ -436,8 +458,32 @@ module _ (n : ℕ) (l : StmtLaw n) where
       let ls : length ss < n = omega (arith, lt, l0, l2) in
       let lu : length ts < n = omega (arith, lt, l0, l2) in
       let here : List Token = (punctuator q "(" ∷ (xs ++ punctuator r ")" ∷ [])) ++ ss in
-      inr (refl, inr (refl, inl (refl, ((p, ((e, s), Some t)), refl, (keyword p "if" ∷ [], here ++ (keyword v "else" ∷ ts), refl, refl, (here, keyword v "else" ∷ ts, refl,
-        (punctuator q "(" ∷ (xs ++ punctuator r ")" ∷ []), ss, refl, (q, xs ++ punctuator r ")" ∷ [], refl, (r, xs, refl, (xd, lx, refl))), (false, sd, (λ k. absurd (clash (sym k))), ls)), (v, ts, refl, (o', td, h, lu))))))))
+      inr (
+        refl,
+        inr (
+          refl,
+          inl (
+            refl,
+            (
+              (p, ((e, s), Some t)),
+              refl,
+              (
+                keyword p "if" ∷ [],
+                here ++ (keyword v "else" ∷ ts),
+                refl,
+                refl,
+                (
+                  here,
+                  keyword v "else" ∷ ts,
+                  refl,
+                  (punctuator q "(" ∷ (xs ++ punctuator r ")" ∷ []), ss, refl, (q, xs ++ punctuator r ")" ∷ [], refl, (r, xs, refl, (xd, lx, refl))), (false, sd, (λ k. absurd (clash (sym k))), ls)),
+                  (v, ts, refl, (o', td, h, lu)),
+                ),
+              ),
+            ),
+          ),
+        ),
+      )
   node_full o x front rest (Statement.for o' p k m hd s ls ms hs ss ld md hh sd) h lt =
       let l0 = length-append ls (ms ++ (keyword p "for" ∷ (hs ++ ss))) in
       let l1 = length-append ms (keyword p "for" ∷ (hs ++ ss)) in
@@ -446,36 +492,88 @@ module _ (n : ℕ) (l : StmtLaw n) where
       let lz : length ss < n = omega (arith, lt, l0, l1, l2) in
       let us : List Token = hs ++ ss in
       let off = λ (c : Token → Bool) (f : (i : Spelling) → c (species i) ≡ false) (g : (i : Spelling) (d : ℕ) (z : Schedule) → c (parallel i d z) ≡ false) (w : (r : ℕ) → c (keyword r "for") ≡ false). loop_first c false f g w k m p ls ms us rest ld md in
-      inr (off (is_mark ";") (λ i. refl) (λ i d z. refl) (λ r. refl), inr (off (is_mark "{") (λ i. refl) (λ i d z. refl) (λ r. refl), inr (off (is_the_keyword "if") (λ i. refl) (λ i d z. refl) (λ r. refl),
-        inl (loop_first is_loop true (λ i. refl) (λ i d z. refl) (λ r. refl) k m p ls ms us rest ld md,
-          ((k, (m, (p, (hd, s)))), refl, (ls, ms ++ (keyword p "for" ∷ us), refl, species_full k ls _ ld (parallel_first (is_of species_lines) false (λ i d z. refl) (λ r. refl) m p ms us rest md),
-            (ms, keyword p "for" ∷ us, refl, parallel_full m ms _ md refl, (keyword p "for" ∷ [], us, refl, refl, (hs, ss, refl, (hh, lh), (o', sd, h, lz))))))))))
+      inr (
+        off (is_mark ";") (λ i. refl) (λ i d z. refl) (λ r. refl),
+        inr (
+          off (is_mark "{") (λ i. refl) (λ i d z. refl) (λ r. refl),
+          inr (
+            off (is_the_keyword "if") (λ i. refl) (λ i d z. refl) (λ r. refl),
+            inl (
+              loop_first is_loop true (λ i. refl) (λ i d z. refl) (λ r. refl) k m p ls ms us rest ld md,
+              (
+                (k, (m, (p, (hd, s)))),
+                refl,
+                (
+                  ls,
+                  ms ++ (keyword p "for" ∷ us),
+                  refl,
+                  species_full k ls _ ld (parallel_first (is_of species_lines) false (λ i d z. refl) (λ r. refl) m p ms us rest md),
+                  (ms, keyword p "for" ∷ us, refl, parallel_full m ms _ md refl, (keyword p "for" ∷ [], us, refl, refl, (hs, ss, refl, (hh, lh), (o', sd, h, lz)))),
+                ),
+              ),
+            ),
+          ),
+        ),
+      )
   node_full o x front rest (Statement.atomic_assignment p q i t e ts xs td xd) h lt =
       let l0 = length-append ts (punctuator p "+=" ∷ (xs ++ punctuator q ";" ∷ [])) in
       let l1 = length-append xs (punctuator q ";" ∷ []) in
       let lu : length ts < suc n = omega (arith, lt, l0) in
       let lx : length xs < n = omega (arith, lt, l0, l1) in
-      inr (refl, inr (refl, inr (refl, inr (refl, inl (refl, (i, ts ++ (punctuator p "+=" ∷ (xs ++ punctuator q ";" ∷ [])), refl, ((t, e), refl,
-        (ts, punctuator p "+=" ∷ (xs ++ punctuator q ";" ∷ []), refl, (td, lu, refl), (p, xs ++ punctuator q ";" ∷ [], refl, (q, xs, refl, (xd, lx, refl)))))))))))
+      inr (
+        refl,
+        inr (
+          refl,
+          inr (
+            refl,
+            inr (
+              refl,
+              inl (
+                refl,
+                (
+                  i,
+                  ts ++ (punctuator p "+=" ∷ (xs ++ punctuator q ";" ∷ [])),
+                  refl,
+                  (
+                    (t, e),
+                    refl,
+                    (ts, punctuator p "+=" ∷ (xs ++ punctuator q ";" ∷ []), refl, (td, lu, refl), (p, xs ++ punctuator q ";" ∷ [], refl, (q, xs, refl, (xd, lx, refl)))),
+                  ),
+                ),
+              ),
+            ),
+          ),
+        ),
+      )
   node_full o x front rest (Statement.assignment p q k cs d) h lt =
       let l0 = length-append cs (punctuator q ";" ∷ []) in
       let lc : length cs < n = omega (arith, lt, l0) in
-      inr (change_first (is_mark ";") (λ r. refl) (λ r. refl) (λ m. refl) p q k cs rest d, inr (change_first (is_mark "{") (λ r. refl) (λ r. refl) (λ m. refl) p q k cs rest d,
-        inr (change_first (is_the_keyword "if") (λ r. refl) (λ r. refl) (λ m. refl) p q k cs rest d, inr (change_first is_loop (λ r. refl) (λ r. refl) (λ m. refl) p q k cs rest d,
-          inr (change_first (is_of atomic_lines) (λ r. refl) (λ r. refl) (λ m. refl) p q k cs rest d, ((p, k), refl, (q, cs, refl, (d, lc, refl))))))))
+      inr (
+        change_first (is_mark ";") (λ r. refl) (λ r. refl) (λ m. refl) p q k cs rest d,
+        inr (
+          change_first (is_mark "{") (λ r. refl) (λ r. refl) (λ m. refl) p q k cs rest d,
+          inr (
+            change_first (is_the_keyword "if") (λ r. refl) (λ r. refl) (λ m. refl) p q k cs rest d,
+            inr (
+              change_first is_loop (λ r. refl) (λ r. refl) (λ m. refl) p q k cs rest d,
+              inr (change_first (is_of atomic_lines) (λ r. refl) (λ r. refl) (λ m. refl) p q k cs rest d, ((p, k), refl, (q, cs, refl, (d, lc, refl)))),
+            ),
+          ),
+        ),
+      )
 
   node_lawful : StmtLaw (suc n)
   node_lawful =
       recast (statement_at (suc n)) _ _ StmtS (StmtF (suc n)) _ StmtV
-          (choose_lawful (is_mark ";") (mapped empty_of (word (the_mark ";"))) _ _ _ _ _ _ _ empty_lawful
-            (choose_lawful (is_mark "{") (block_at n (statement_at n)) _ _ _ _ _ _ _ block_lawful
-              (choose_lawful (is_the_keyword "if") (if_at n (statement_at n)) _ _ _ _ _ _ _ if_lawful
-                (choose_lawful is_loop (loop_at n (statement_at n)) _ _ _ _ _ _ _ loop_lawful
-                  (choose_lawful (is_of atomic_lines) (atomic_at n) (assignment_at n) _ _ _ _ _ _ (atomic_lawful n) (assignment_lawful n))))))
-          node_said
-          (λ x front rest h. node_full h.0 x front rest h.1 h.2 h.3)
-          node_viable
-          (λ x front rest h. (h.0, h.1))
+      (choose_lawful (is_mark ";") (mapped empty_of (word (the_mark ";"))) _ _ _ _ _ _ _ empty_lawful
+      (choose_lawful (is_mark "{") (block_at n (statement_at n)) _ _ _ _ _ _ _ block_lawful
+      (choose_lawful (is_the_keyword "if") (if_at n (statement_at n)) _ _ _ _ _ _ _ if_lawful
+      (choose_lawful is_loop (loop_at n (statement_at n)) _ _ _ _ _ _ _ loop_lawful
+      (choose_lawful (is_of atomic_lines) (atomic_at n) (assignment_at n) _ _ _ _ _ _ (atomic_lawful n) (assignment_lawful n))))))
+      node_said
+      (λ x front rest h. node_full h.0 x front rest h.1 h.2 h.3)
+      node_viable
+      (λ x front rest h. (h.0, h.1))
 
 pub statement_lawful : (n : ℕ) → StmtLaw n
 statement_lawful zero =

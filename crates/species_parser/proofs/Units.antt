@@ -1,9 +1,9 @@
 -- The reader of units is lawful.
-use Rattle.std.proofs.Common.{◌≡◌, ◌∙◌, ap, sym, refl, subst, ℕ, zero, suc, ◌+◌, ◌<◌, ◌≤◌, List, [], ◌∷◌, ◌++◌, length, Option, Some, None, Bool, true, false, arith, length-append, append_assoc, append-nil, inl, inr}
-use Rattle.std.specs.Prelude.{◌⊎◌, is_some}
+use Rattle.std.proofs.Common.{◌≡◌, ◌∙◌, ap, sym, refl, subst, ℕ, zero, suc, ◌<◌, ◌≤◌, List, [], ◌∷◌, ◌++◌, length, Bool, true, false, arith, length-append, append_assoc, inl, inr}
+use Rattle.std.specs.Prelude.{is_some}
 use Prim.Native.String.{String}
-use Rattle.species_grammar.specs.Reader.{Reader, Word, is_of, starts, word, both, mapped, choose, skip, ends, maybe_word}
-use Rattle.species_grammar.specs.Lawful.{Spelled, Before, IsWord, Lawful, plain, word_spelled, both_before, both_spelled, mapped_before, mapped_spelled, choose_before, choose_spelled, skip_before, skip_spelled, maybe_word_before, maybe_word_spelled}
+use Rattle.species_grammar.specs.Reader.{is_of, starts, word, both, mapped, skip, maybe_word}
+use Rattle.species_grammar.specs.Lawful.{Spelled, Before, Lawful, plain, word_spelled, both_before, both_spelled, mapped_before, mapped_spelled, choose_before, choose_spelled, skip_before, skip_spelled, maybe_word_before, maybe_word_spelled}
 use Rattle.species_grammar.proofs.Laws.{recast_plain, both_lawful, mapped_lawful, word_lawful, choose_lawful, skip_lawful, maybe_word_lawful, shallow_lawful}
 use Rattle.species_ast.specs.Token.{Token}
 use Rattle.species_ast.specs.Spelling.{Spelling}
@@ -14,7 +14,6 @@ use Rattle.species_ast.specs.Grammar.Statements.{BlockItems}
 use Rattle.species_ast.specs.Grammar.Units.{after, TranslationUnit}
 use Rattle.species_ast.specs.declared.tree.Kind.{Kind}
 use Rattle.species_ast.specs.declared.raw.RawItem.{RawItem}
-use Rattle.species_ast.specs.declared.raw.RawItem.TheVariants as item
 use Rattle.species_ast.specs.declared.raw.RawStmt.{RawStmt}
 use Rattle.species_ast.specs.declared.raw.RawUnit.{RawUnit}
 use Rattle.species_parser.specs.Words.{the_mark, the_keyword, names, includes, is_the_keyword}
@@ -41,11 +40,11 @@ FunctionF n = skip_before (the_keyword "void") (mapped_before function_of (both_
 function_lawful : (n : ℕ) → Lawful (function_at n) FunctionS (FunctionF n) FunctionV
 function_lawful n =
     skip_lawful (the_keyword "void") (keyword_is_word "void") _ _ _ _
-      (mapped_lawful function_of (both (word names) (skip (the_mark "(") (both (maybe_word (the_keyword "void")) (skip (the_mark ")") (skip (the_mark "{") (body_at n)))))) _ _ _
-        (both_lawful (word names) (skip (the_mark "(") (both (maybe_word (the_keyword "void")) (skip (the_mark ")") (skip (the_mark "{") (body_at n))))) _ _ _ _ _ _ (word_lawful names name_is_word)
-          (skip_lawful (the_mark "(") (mark_is_word "(") (both (maybe_word (the_keyword "void")) (skip (the_mark ")") (skip (the_mark "{") (body_at n)))) _ _ _
-            (both_lawful (maybe_word (the_keyword "void")) (skip (the_mark ")") (skip (the_mark "{") (body_at n))) _ _ _ _ _ _ (maybe_word_lawful (the_keyword "void") (keyword_is_word "void"))
-              (skip_lawful (the_mark ")") (mark_is_word ")") (skip (the_mark "{") (body_at n)) _ _ _ (skip_lawful (the_mark "{") (mark_is_word "{") (body_at n) _ _ _ (body_lawful n)))))))
+    (mapped_lawful function_of (both (word names) (skip (the_mark "(") (both (maybe_word (the_keyword "void")) (skip (the_mark ")") (skip (the_mark "{") (body_at n)))))) _ _ _
+    (both_lawful (word names) (skip (the_mark "(") (both (maybe_word (the_keyword "void")) (skip (the_mark ")") (skip (the_mark "{") (body_at n))))) _ _ _ _ _ _ (word_lawful names name_is_word)
+    (skip_lawful (the_mark "(") (mark_is_word "(") (both (maybe_word (the_keyword "void")) (skip (the_mark ")") (skip (the_mark "{") (body_at n)))) _ _ _
+    (both_lawful (maybe_word (the_keyword "void")) (skip (the_mark ")") (skip (the_mark "{") (body_at n))) _ _ _ _ _ _ (maybe_word_lawful (the_keyword "void") (keyword_is_word "void"))
+    (skip_lawful (the_mark ")") (mark_is_word ")") (skip (the_mark "{") (body_at n)) _ _ _ (skip_lawful (the_mark "{") (mark_is_word "{") (body_at n) _ _ _ (body_lawful n)))))))
 
 -- ---- what a unit is read as
 
@@ -69,18 +68,18 @@ function_is : (b : Bool) (f : Spelling) (body : List RawStmt) (c : Bool) (p q r 
     → Optional "static" b bs → Optional "void" c cs → BlockItems body ts → TranslationUnit (record { items = []; function = f; body = body }) front
 function_is b f body c p q r s front bs f0 f1 a f2 f3 cs f4 f5 ts i0 i1 i2 j2 i3 i4 i5 i6 bd cd d =
     subst (TranslationUnit (record { items = []; function = f; body = body }))
-      (sym (i0 ∙ ap (λ z. bs ++ z) (i1 ∙ ap (λ z. keyword p "void" ∷ z) (i2 ∙ ap (λ z. z ++ f2) j2 ∙ ap (λ z. name f ∷ z) (i3 ∙ ap (λ z. punctuator q "(" ∷ z) (i4 ∙ ap (λ z. cs ++ z) (i5 ∙ ap (λ z. punctuator r ")" ∷ z) i6)))))))
-      (TranslationUnit.function b c p q r s f body bs cs ts bd cd d)
+    (sym (i0 ∙ ap (λ z. bs ++ z) (i1 ∙ ap (λ z. keyword p "void" ∷ z) (i2 ∙ ap (λ z. z ++ f2) j2 ∙ ap (λ z. name f ∷ z) (i3 ∙ ap (λ z. punctuator q "(" ∷ z) (i4 ∙ ap (λ z. cs ++ z) (i5 ∙ ap (λ z. punctuator r ")" ∷ z) i6)))))))
+    (TranslationUnit.function b c p q r s f body bs cs ts bd cd d)
 
 unit_viable : (x : RawUnit) (front : List Token) → UnitV x front → TranslationUnit x front
 unit_viable x front (inl (p, y, (a, b, i, j, d))) =
     subst (λ z. TranslationUnit z front) y (subst (TranslationUnit (include_of p)) (sym (i ∙ ap (λ z. z ++ b) j)) (TranslationUnit.directive p.0 p.1 b d))
 unit_viable x front (inr (p, y, (bs, f0, i0, bd, inl (v, f1, i1, (h, e, (a, f2, i2, j2, (q, f3, i3, (cs, f4, i4, cd, (r, f5, i5, (s, ts, i6, d)))))))))) =
     subst (λ z. TranslationUnit z front) (e ∙ y)
-      (function_is (is_some p.0) h.0 h.1.1 (is_some h.1.0) v q r s front bs f0 f1 a f2 f3 cs f4 f5 ts i0 i1 i2 j2 i3 i4 i5 i6 (optional_viable "static" p.0 bs bd) (optional_viable "void" h.1.0 cs cd) d)
+    (function_is (is_some p.0) h.0 h.1.1 (is_some h.1.0) v q r s front bs f0 f1 a f2 f3 cs f4 f5 ts i0 i1 i2 j2 i3 i4 i5 i6 (optional_viable "static" p.0 bs bd) (optional_viable "void" h.1.0 cs cd) d)
 unit_viable x front (inr (p, y, (bs, f0, i0, bd, inr (h, e, (gs, ts, i1, gd, ud))))) =
     subst (λ z. TranslationUnit z front) (e ∙ y)
-      (subst (TranslationUnit (after_of h)) (sym (i0 ∙ ap (λ z. bs ++ z) i1)) (TranslationUnit.global (is_some p.0) h.0 h.1 bs gs ts (optional_viable "static" p.0 bs bd) gd ud))
+    (subst (TranslationUnit (after_of h)) (sym (i0 ∙ ap (λ z. bs ++ z) i1)) (TranslationUnit.global (is_some p.0) h.0 h.1 bs gs ts (optional_viable "static" p.0 bs bd) gd ud))
 
 -- ---- how a unit begins
 
@@ -122,8 +121,10 @@ unit_full n x front rest (TranslationUnit.global b g u bs gs ts bd gd ud) lt =
     let mu : length ts < n = omega (arith, lt, l0, l1, lg) in
     let begins = λ (c : Token → Bool) (i : (p : ℕ) → c (keyword p "int") ≡ false) (w : (p : ℕ) → c (keyword p "unsigned") ≡ false). ap (starts c) (append_assoc gs ts rest) ∙ global_starts c false i w g gs (ts ++ rest) gd in
     let o = optional_full "static" b bs ((gs ++ ts) ++ rest) bd (begins (is_the_keyword "static") (λ p. refl) (λ p. refl)) in
-    inr (ap (starts (is_of includes)) (append_assoc bs (gs ++ ts) rest) ∙ optional_starts (is_of includes) false "static" b bs ((gs ++ ts) ++ rest) bd (λ p. refl) (begins (is_of includes) (λ p. refl) (λ p. refl)),
-      ((o.0, after g u), refl, (bs, gs ++ ts, refl, o.2, inr (begins (is_the_keyword "void") (λ p. refl) (λ p. refl), ((g, u), refl, (gs, ts, refl, (gd, mg), (ud, mu)))))))
+    inr (
+      ap (starts (is_of includes)) (append_assoc bs (gs ++ ts) rest) ∙ optional_starts (is_of includes) false "static" b bs ((gs ++ ts) ++ rest) bd (λ p. refl) (begins (is_of includes) (λ p. refl) (λ p. refl)),
+      ((o.0, after g u), refl, (bs, gs ++ ts, refl, o.2, inr (begins (is_the_keyword "void") (λ p. refl) (λ p. refl), ((g, u), refl, (gs, ts, refl, (gd, mg), (ud, mu)))))),
+    )
 unit_full n x front rest (TranslationUnit.function b c p q r s f body bs cs ts bd cd d) lt =
     let f4 : List Token = punctuator r ")" ∷ punctuator s "{" ∷ ts in
     let f3 : List Token = cs ++ f4 in
@@ -133,9 +134,38 @@ unit_full n x front rest (TranslationUnit.function b c p q r s f body bs cs ts b
     let len : length ts < n = omega (arith, lt, l0, l1) in
     let o = optional_full "static" b bs (f0 ++ rest) bd refl in
     let v = optional_full "void" c cs (f4 ++ rest) cd refl in
-    inr (ap (starts (is_of includes)) (append_assoc bs f0 rest) ∙ optional_starts (is_of includes) false "static" b bs (f0 ++ rest) bd (λ p. refl) refl,
-      ((o.0, record { items = []; function = f; body = body }), refl, (bs, f0, refl, o.2, inl (refl, (p, name f ∷ punctuator q "(" ∷ f3, refl, ((f, (v.0, body)), refl, (name f ∷ [], punctuator q "(" ∷ f3, refl, refl,
-        (q, f3, refl, (cs, f4, refl, v.2, (r, punctuator s "{" ∷ ts, refl, (s, ts, refl, (d, len))))))))))))
+    inr (
+      ap (starts (is_of includes)) (append_assoc bs f0 rest) ∙ optional_starts (is_of includes) false "static" b bs (f0 ++ rest) bd (λ p. refl) refl,
+      (
+        (o.0, record { items = []; function = f; body = body }),
+        refl,
+        (
+          bs,
+          f0,
+          refl,
+          o.2,
+          inl (
+            refl,
+            (
+              p,
+              name f ∷ punctuator q "(" ∷ f3,
+              refl,
+              (
+                (f, (v.0, body)),
+                refl,
+                (
+                  name f ∷ [],
+                  punctuator q "(" ∷ f3,
+                  refl,
+                  refl,
+                  (q, f3, refl, (cs, f4, refl, v.2, (r, punctuator s "{" ∷ ts, refl, (s, ts, refl, (d, len))))),
+                ),
+              ),
+            ),
+          ),
+        ),
+      ),
+    )
 
 -- ---- units of every depth
 
@@ -148,17 +178,17 @@ some_spelling = record { text = []; place = 0 }
 unit_step : (n : ℕ) → UnitLaw n → UnitLaw (suc n)
 unit_step n l =
     recast_plain (unit_at (suc n)) _ _ (UnitBefore (suc n)) _ TranslationUnit
-        (choose_lawful (is_of includes) (mapped include_of (both (word includes) (unit_at n))) (mapped unstatic (both (maybe_word (the_keyword "static")) (external_at n (unit_at n)))) _ _ _ _ _ _
-          (mapped_lawful include_of (both (word includes) (unit_at n)) _ _ _ (both_lawful (word includes) (unit_at n) _ _ _ _ _ _ (word_lawful includes include_is_word) l))
-          (mapped_lawful unstatic (both (maybe_word (the_keyword "static")) (external_at n (unit_at n))) _ _ _
-            (both_lawful (maybe_word (the_keyword "static")) (external_at n (unit_at n)) _ _ _ _ _ _ (maybe_word_lawful (the_keyword "static") (keyword_is_word "static"))
-              (choose_lawful (is_the_keyword "void") (function_at n) (mapped after_of (both (global_at n) (unit_at n))) _ _ _ _ _ _ (function_lawful n)
-                (mapped_lawful after_of (both (global_at n) (unit_at n)) _ _ _ (both_lawful (global_at n) (unit_at n) _ _ _ _ _ _ (global_lawful n) l))))))
-        (λ x front rest h. unit_full n x front rest h.0 h.1)
-        unit_viable
+    (choose_lawful (is_of includes) (mapped include_of (both (word includes) (unit_at n))) (mapped unstatic (both (maybe_word (the_keyword "static")) (external_at n (unit_at n)))) _ _ _ _ _ _
+    (mapped_lawful include_of (both (word includes) (unit_at n)) _ _ _ (both_lawful (word includes) (unit_at n) _ _ _ _ _ _ (word_lawful includes include_is_word) l))
+    (mapped_lawful unstatic (both (maybe_word (the_keyword "static")) (external_at n (unit_at n))) _ _ _
+    (both_lawful (maybe_word (the_keyword "static")) (external_at n (unit_at n)) _ _ _ _ _ _ (maybe_word_lawful (the_keyword "static") (keyword_is_word "static"))
+    (choose_lawful (is_the_keyword "void") (function_at n) (mapped after_of (both (global_at n) (unit_at n))) _ _ _ _ _ _ (function_lawful n)
+    (mapped_lawful after_of (both (global_at n) (unit_at n)) _ _ _ (both_lawful (global_at n) (unit_at n) _ _ _ _ _ _ (global_lawful n) l))))))
+    (λ x front rest h. unit_full n x front rest h.0 h.1)
+    unit_viable
 
 pub unit_lawful : (n : ℕ) → UnitLaw n
 unit_lawful zero =
     shallow_lawful (plain TranslationUnit) (UnitBefore 0) TranslationUnit _ _ (TranslationUnit.function false false 0 0 0 0 some_spelling [] [] [] _ Optional.absent Optional.absent (BlockItems.end 0))
-      (λ x front rest h. h) (λ x front rest h. let l = h.1 in omega (arith, l))
+    (λ x front rest h. h) (λ x front rest h. let l = h.1 in omega (arith, l))
 unit_lawful (suc n) = unit_step n (unit_lawful n)

@@ -1,14 +1,14 @@
 -- Each class of tokens holds the tokens that it makes, and no others.
-use Rattle.std.proofs.Common.{◌≡◌, ◌∙◌, ap, sym, refl, subst, ℕ, zero, suc, ◌+◌, ◌<◌, ◌≤◌, List, [], ◌∷◌, ◌++◌, length, Option, Some, None, Bool, true, false, arith, inl, inr}
-use Rattle.std.specs.Prelude.{if◌then◌else◌, ◌⊎◌, ◌&&◌, ◌||◌, is_some, codes, bytes_eq, nat_eq, nat_le}
+use Rattle.std.proofs.Common.{◌≡◌, ◌∙◌, ap, sym, refl, ℕ, List, [], ◌∷◌, Option, Some, None, Bool, true, false}
+use Rattle.std.specs.Prelude.{if◌then◌else◌, ◌&&◌, is_some, codes, bytes_eq, nat_eq}
 use Rattle.std.proofs.lemmas.Slice.Eq.{bytes_eq-Decides}
-use Rattle.std.proofs.lemmas.Bool.{eqb-true, eq-eqb, leb-true, le-leb}
+use Rattle.std.proofs.lemmas.Bool.{eqb-true, eq-eqb}
 use Prim.Native.String.{String}
-use Rattle.species_grammar.specs.Reader.{Word, is_of}
+use Rattle.species_grammar.specs.Reader.{Word}
 use Rattle.species_grammar.specs.Lawful.{IsWord}
 use Rattle.species_ast.specs.Token.{Token}
 use Rattle.species_ast.specs.Spelling.{Spelling}
-use Rattle.species_ast.specs.Grammar.Words.{punctuator, keyword, name, number, include, species, parallel, atomic}
+use Rattle.species_ast.specs.Grammar.Words.{punctuator, name, number, include, species, parallel, atomic}
 use Rattle.species_ast.specs.Grammar.Expressions.{Operation, binary_sign, unary_sign, level_of}
 use Rattle.species_ast.specs.Grammar.Statements.{assignment_sign, test_sign}
 use Rattle.species_ast.specs.declared.token.TokenKind.{TokenKind}
@@ -244,6 +244,6 @@ none_some x h = cc
 pub mark_apart : {A : Type 0} (w : Word Token A) (s : String) (t : Token) (x : A) → w.says t ≡ Some x → ((q : ℕ) → w.says (punctuator q s) ≡ None) → is_mark s t ≡ false
 mark_apart w s t x h off =
     never (is_mark s t) (λ e.
-      let k = is_some_in ((the_mark s).says t) e in
-      let i = (mark_is_word s).is t k.0 k.1 in
-      none_some x (sym (off k.0) ∙ ap w.says (sym i) ∙ h))
+    let k = is_some_in ((the_mark s).says t) e in
+    let i = (mark_is_word s).is t k.0 k.1 in
+    none_some x (sym (off k.0) ∙ ap w.says (sym i) ∙ h))

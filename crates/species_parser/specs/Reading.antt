@@ -1,6 +1,6 @@
 -- The readers of the grammar. The number bounds how deep things nest and how many of one kind follow each other.
-use Rattle.std.specs.Prelude.{ℕ, zero, suc, List, [], ◌∷◌, Bool, true, false, is_some, Option, Some, None}
-use Rattle.species_grammar.specs.Reader.{Reader, Word, is_of, one, word, nothing, both, mapped, choose, skip, ends, maybe, maybe_word, cons_of, too_shallow, many, until, level}
+use Rattle.std.specs.Prelude.{ℕ, zero, suc, List, [], Bool, is_some, Option, Some, None}
+use Rattle.species_grammar.specs.Reader.{Reader, Word, is_of, one, word, both, mapped, choose, skip, ends, maybe, maybe_word, cons_of, too_shallow, many, until, level}
 use Rattle.species_ast.specs.Token.{Token}
 use Rattle.species_ast.specs.Spelling.{Spelling}
 use Rattle.species_ast.specs.Grammar.Expressions.{Operation, operation, expression, place_of, target}
@@ -82,9 +82,9 @@ opened_reader u e = choose is_type (mapped cast_of (both (ends type_reader (the_
 abbrev pub operand_reader : ℕ → Reader Token RawExpr → Reader Token RawExpr → Reader Token RawExpr
 operand_reader m u e =
     choose (is_of numbers) (mapped number_of (word numbers))
-      (choose (is_of unary_operators) (mapped unary_of (both (word unary_operators) u))
-        (choose (is_mark "(") (mapped opened_of (both (word (the_mark "(")) (opened_reader u e)))
-          (mapped element_of (both (word names) (subscripts_reader m e)))))
+    (choose (is_of unary_operators) (mapped unary_of (both (word unary_operators) u))
+    (choose (is_mark "(") (mapped opened_of (both (word (the_mark "(")) (opened_reader u e)))
+    (mapped element_of (both (word names) (subscripts_reader m e)))))
 
 -- one level of binary operators, where r reads the operands
 abbrev pub level_reader : ℕ → ℕ → Reader Token RawExpr → Reader Token RawExpr
@@ -174,7 +174,7 @@ set_to p t = change.Set t p.0.1 p.1
 abbrev pub change_tail_at : ℕ → Reader Token (RawTarget → RawChange)
 change_tail_at n =
     choose (is_mark "++") (mapped up_after (word (the_mark "++")))
-      (choose (is_mark "--") (mapped down_after (word (the_mark "--"))) (mapped set_to (both (word assignment_operators) (expression_at n))))
+    (choose (is_mark "--") (mapped down_after (word (the_mark "--"))) (mapped set_to (both (word assignment_operators) (expression_at n))))
 
 abbrev pub up_first : ℕ × RawTarget → ℕ × RawChange
 up_first p = (p.0, change.UpBefore p.1)
@@ -189,7 +189,7 @@ target_first p = (target_place p.0, p.1 p.0)
 abbrev pub change_at : ℕ → Reader Token (ℕ × RawChange)
 change_at n =
     choose (is_mark "++") (mapped up_first (both (word (the_mark "++")) (target_at n)))
-      (choose (is_mark "--") (mapped down_first (both (word (the_mark "--")) (target_at n))) (mapped target_first (both (target_at n) (change_tail_at n))))
+    (choose (is_mark "--") (mapped down_first (both (word (the_mark "--")) (target_at n))) (mapped target_first (both (target_at n) (change_tail_at n))))
 
 abbrev pub assignment_of : ℕ × RawChange → RawStmt
 assignment_of p = statement p.0 (what.Change p.1)
@@ -234,9 +234,9 @@ step_set p i = p.1 i p.0
 abbrev pub step_tail_at : ℕ → Reader Token (Spelling → RawStep)
 step_tail_at n =
     choose (is_mark "++") (mapped step_up (word (the_mark "++")))
-      (choose (is_mark "--") (mapped step_down (word (the_mark "--")))
-        (choose (is_mark "+=") (mapped step_add (skip (the_mark "+=") (expression_at n)))
-          (choose (is_mark "-=") (mapped step_sub (skip (the_mark "-=") (expression_at n))) (skip (the_mark "=") (mapped step_set (both (word names) (sum_at n)))))))
+    (choose (is_mark "--") (mapped step_down (word (the_mark "--")))
+    (choose (is_mark "+=") (mapped step_add (skip (the_mark "+=") (expression_at n)))
+    (choose (is_mark "-=") (mapped step_sub (skip (the_mark "-=") (expression_at n))) (skip (the_mark "=") (mapped step_set (both (word names) (sum_at n)))))))
 
 abbrev pub step_of : Spelling × (Spelling → RawStep) → RawStep
 step_of p = p.1 p.0
@@ -244,7 +244,7 @@ step_of p = p.1 p.0
 abbrev pub step_at : ℕ → Reader Token RawStep
 step_at n =
     choose (is_mark "++") (mapped step.UpBefore (skip (the_mark "++") (word names)))
-      (choose (is_mark "--") (mapped step.DownBefore (skip (the_mark "--") (word names))) (mapped step_of (both (word names) (step_tail_at n))))
+    (choose (is_mark "--") (mapped step.DownBefore (skip (the_mark "--") (word names))) (mapped step_of (both (word names) (step_tail_at n))))
 
 abbrev pub header_of : Bool × (Spelling × (RawExpr × (Spelling × ((ℕ × Test) × (RawExpr × RawStep))))) → Header
 header_of p = record { typed = p.0; iter = p.1.0; start = p.1.1.0; tested = p.1.1.1.0; test = p.1.1.1.1.0.1; limit = p.1.1.1.1.1.0; step = p.1.1.1.1.1.1 }
@@ -304,7 +304,7 @@ empty_of p = statement p what.Empty
 abbrev pub node_at : ℕ → Reader Token RawStmt → Reader Token RawStmt
 node_at n body =
     choose (is_mark ";") (mapped empty_of (word (the_mark ";")))
-      (choose (is_mark "{") (block_at n body) (choose (is_the_keyword "if") (if_at n body) (choose is_loop (loop_at n body) (choose (is_of atomic_lines) (atomic_at n) (assignment_at n)))))
+    (choose (is_mark "{") (block_at n body) (choose (is_the_keyword "if") (if_at n body) (choose is_loop (loop_at n body) (choose (is_of atomic_lines) (atomic_at n) (assignment_at n)))))
 
 abbrev pub statement_at : ℕ → Reader Token RawStmt
 statement_at zero = too_shallow

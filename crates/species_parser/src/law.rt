@@ -17,7 +17,5 @@ pub fn law_read_or_wrong()
 
 /// A list of tokens goes wrong at one place.
 pub fn law_one_place()
-    ensures {
-        (ts one other : List Token) → SyntaxErrorBefore ts one → SyntaxErrorBefore ts other → one ≡ other
-    }
+    ensures { (ts one other : List Token) → SyntaxErrorBefore ts one → SyntaxErrorBefore ts other → one ≡ other }
 {}
