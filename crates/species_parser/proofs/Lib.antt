@@ -10,3 +10,4 @@ pub mod Whole
 pub mod Enough
 pub mod Examples
 pub mod Refusals
+pub mod Places
