@@ -8,12 +8,14 @@ mod copies;
 mod memory;
 mod stripping;
 mod text;
+mod token;
 mod tree;
 
 pub use copies::{copy, copy_expr, copy_exprs, copy_loop, copy_stmt, copy_stmts};
 pub use memory::OutOfMemory;
 pub use stripping::strip;
 pub use text::{Dims, Includes, LineText, Name};
+pub use token::TokenKind;
 pub use tree::{
     Array, Binary, Expr, Kind, LocalInfo, Loop, Mark, Schedule, Stmt, Test, Unary, Unit, Value,
 };

@@ -1,0 +1,11 @@
+-- A token of a program (C17 6.4): its place, the bytes that it is, and what it is.
+use Rattle.std.specs.Prelude.{ℕ, List}
+use Rattle.species_ast.specs.declared.token.TokenKind.{TokenKind}
+
+-- The place is the byte offset of the token's first byte, for a directive that of its `#`. The text
+-- is the token's own bytes; of a `#define` the name, of an `#include` the header with its brackets
+-- or quotes, and of a species line the text after the word without the blanks at its ends.
+pub record Token : Type 0 where
+  pub place : ℕ
+  pub text : List ℕ
+  pub kind : TokenKind
