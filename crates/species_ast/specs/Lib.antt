@@ -1,4 +1,5 @@
 pub mod Line
 pub mod Marks
+pub mod Names
 pub mod Strip
 pub mod Token
