@@ -86,8 +86,7 @@ pub residues_decide : (n : ℕ) (p q : Form) (at : Direction) (ps qs : List Loop
     (d ∣ unsigned_abs (form_at p (residues_of ps) -ℤ form_at q (residues_of qs))) ↔ (d ∣ unsigned_abs (constant_of p q ps qs))
 residues_decide n p q at ps qs d rising_p rising_q named_p named_q loops common =
     let residual : ℤ = form_at p (residues_of ps) -ℤ form_at q (residues_of qs) in
-    let apart = apart_from_residues n p q at ps qs d rising_p rising_q named_p named_q loops common in
-    (
+    let apart = apart_from_residues n p q at ps qs d rising_p rising_q named_p named_q loops common in (
       (λ h. dvd_from_apart d (constant_of p q ps qs) residual apart h),
       (λ h. dvd_from_apart d residual (constant_of p q ps qs) (dvd_apart_turned d (constant_of p q ps qs) residual apart) h),
     )

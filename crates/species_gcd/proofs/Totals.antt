@@ -1,5 +1,5 @@
 -- Divisors of the difference of two totals.
-use Rattle.std.proofs.Common.{◌≡◌, ℕ, zero, suc, ◌<◌, ℤ, pos, ◌+ℤ◌, ◌-ℤ◌, ◌*ℤ◌, arith, subst, ap, Bool, true, false, IsTrue, ◌↔◌}
+use Rattle.std.proofs.Common.{◌≡◌, ℕ, zero, suc, ◌<◌, ℤ, pos, ◌+ℤ◌, ◌-ℤ◌, ◌*ℤ◌, arith, refl, subst, ap, Bool, true, false, IsTrue, ◌↔◌}
 use Rattle.std.specs.Int.{◌∣◌}
 use Rattle.std.specs.Int.RustNames.{unsigned_abs}
 use Rattle.std.proofs.lemmas.Int.{ints}
@@ -36,7 +36,7 @@ part_moved_together a b u m x y =
 pub dvd_part : (shared : Bool) (d : ℕ) (a b u v m n x y : ℤ) → DividesLevel shared d a b u v → (IsTrue shared → u ≡ v) → (IsTrue shared → m ≡ n) →
     d ∣ unsigned_abs (part_of a b (x +ℤ u *ℤ m, y +ℤ v *ℤ n) -ℤ part_of a b (x, y))
 dvd_part true d a b u v m n x y h same_unit same =
-    rw (← same_unit tt, ← same tt, part_moved_together a b u m x y) (dvd_product d ((a -ℤ b) *ℤ u) m h)
+    rw (← same_unit refl, ← same refl, part_moved_together a b u m x y) (dvd_product d ((a -ℤ b) *ℤ u) m h)
 dvd_part false d a b u v m n x y h same_unit same =
     rw (part_moved a b u v m n x y) (dvd_difference d ((a *ℤ u) *ℤ m) ((b *ℤ v) *ℤ n) (dvd_product d (a *ℤ u) m h.0) (dvd_product d (b *ℤ v) n h.1))
 
@@ -50,3 +50,7 @@ dvd_totals d c part x y (suc n) each =
     let e : (total_of c part x n -ℤ total_of c part y n) +ℤ (part n (x n) -ℤ part n (y n)) ≡ total_of c part x (suc n) -ℤ total_of c part y (suc n) = omega (arith, ints) in
     subst (λ (z : ℤ). d ∣ unsigned_abs z) e
     (dvd_sum d (total_of c part x n -ℤ total_of c part y n) (part n (x n) -ℤ part n (y n)) (dvd_totals d c part x y n (λ k h. each k (omega (arith, h)))) (each n (omega arith)))
+
+-- what divides a number divides an equal one
+pub dvd_same : (d m n : ℕ) → m ≡ n → d ∣ m → d ∣ n
+dvd_same d m n e h = subst (λ (z : ℕ). d ∣ z) e h

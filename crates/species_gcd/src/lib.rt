@@ -106,7 +106,13 @@ fn is_multiple(number: i128, divisor: u128) -> bool
 /// start is a constant counts by its counter, so its step is a factor of its coefficient. `p_path` and
 /// `q_path` have the ranges of the loops around the two references. Where the answer is false, the two
 /// references never name one place in this dimension.
-pub fn divides(p: &Form, q: &Form, at: &Direction, p_path: &[LoopRange], q_path: &[LoopRange]) -> bool
+pub fn divides(
+    p: &Form,
+    q: &Form,
+    at: &Direction,
+    p_path: &[LoopRange],
+    q_path: &[LoopRange],
+) -> bool
     requires loops { ShareLoops at.now p_path.now q_path.now }
     requires first_path { IsSmallPath p_path.now }
     requires second_path { IsSmallPath q_path.now }
@@ -123,7 +129,10 @@ pub fn divides(p: &Form, q: &Form, at: &Direction, p_path: &[LoopRange], q_path:
         let b = coefficient(q, level);
         let first = range_or_zero(p_path, level);
         let second = range_or_zero(q_path, level);
-        divisor = gcd(divisor, divisor_of_level(level < differs_at, a, b, first, second));
+        divisor = gcd(
+            divisor,
+            divisor_of_level(level < differs_at, a, b, first, second),
+        );
         constant = add_products(constant, a, residue(first), b, residue(second));
     }
     is_multiple(constant, divisor)
