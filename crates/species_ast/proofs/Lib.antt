@@ -4,5 +4,6 @@ pub mod Examples
 pub mod Folds
 pub mod Grammar
 pub mod Induction
+pub mod KindLaws
 pub mod RunLaws
 pub mod StripLaws
