@@ -4,6 +4,7 @@ pub mod Examples
 pub mod Folds
 pub mod Grammar
 pub mod Induction
+pub mod IteratorLaws
 pub mod KindLaws
 pub mod RunLaws
 pub mod StripLaws
