@@ -4,6 +4,8 @@ pub mod Examples
 pub mod Folds
 pub mod Grammar
 pub mod Induction
+pub mod IteratorLaws
+pub mod KindLaws
 pub mod RunLaws
 mod ScopeExamples
 pub mod ScopeLaws
