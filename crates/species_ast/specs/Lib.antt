@@ -5,6 +5,7 @@ pub mod Line
 pub mod Marks
 pub mod Names
 pub mod Operators
+pub mod Reading
 pub mod Run
 pub mod Scope
 pub mod Spelling

@@ -19,7 +19,8 @@ pub enum TokenKind {
 /// comment of the language. Each has its place.
 #[derive(Clone, Copy, Debug, PartialEq, Eq)]
 pub enum LexRefusal {
-    /// No token begins at this byte, or the directive whose `#` stands here has no form.
+    /// No token begins at this byte, the directive whose `#` stands here has no form, or this is a
+    /// backslash that may not stand here.
     BadByte(u32),
     /// The number that begins here is no literal of the language.
     BadNumber(u32),

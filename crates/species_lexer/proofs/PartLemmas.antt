@@ -1,7 +1,7 @@
 -- Lemmas on the parts of a directive.
 use Rattle.std.proofs.Common.{◌≡◌, ◌∙◌, ap, sym, refl, ℕ, zero, suc, ◌+◌, ◌<◌, ◌≤◌, Bool, true, false, List, [], ◌∷◌, length, drop, take, get_or, arith, length-drop}
 use Rattle.std.specs.Prelude.{if◌then◌else◌}
-use Rattle.species_ast.specs.Text.Characters.{is_letter, is_digit, is_word_byte, run_of}
+use Rattle.species_ast.specs.Text.Characters.{is_letter, is_digit, is_word, run_of}
 use Rattle.species_ast.specs.Text.Numbers.{run_more}
 use Rattle.species_ast.specs.Text.Comments.{gap_len}
 use Rattle.species_ast.specs.Text.Parts.{Part, part_len, and_parts, parts_at, parts_of}
@@ -9,7 +9,7 @@ use Rattle.species_ast.specs.Text.Parts.{Part, part_len, and_parts, parts_at, pa
 part_some : (b : ℕ) (bytes : List ℕ) → 0 < part_len b bytes
 part_some b bytes = go (is_letter b) (is_digit b)
   where
-    go : (x y : Bool) → 0 < (if x then suc (run_of is_word_byte bytes) else (if y then suc (run_more b bytes) else 1))
+    go : (x y : Bool) → 0 < (if x then suc (run_of is_word bytes) else (if y then suc (run_more b bytes) else 1))
     go true y = omega arith
     go false true = omega arith
     go false false = omega arith

@@ -5,12 +5,12 @@ use Rattle.species_ast.specs.declared.tree.Value.{Value}
 use Rattle.species_ast.specs.declared.tree.Schedule.{Schedule}
 use Rattle.species_ast.specs.declared.token.TokenKind.{TokenKind}
 use Rattle.species_ast.specs.declared.token.TokenKind.TheVariants as kind
-use Rattle.species_ast.specs.Text.Characters.{is_digit, is_word_byte, run_of, line_len, begins}
+use Rattle.species_ast.specs.Text.Characters.{is_digit, is_word, run_of, line_len, begins}
 use Rattle.species_ast.specs.Text.Comments.{gap_len, content_len, comment_len, splice_at}
-use Rattle.species_ast.specs.Text.Numbers.{run_more, literal_of}
+use Rattle.species_ast.specs.Text.Numbers.{run_more, literal_of, or_else}
 use Rattle.species_ast.specs.Text.Words.{is_keyword, punctuator_len}
 use Rattle.species_ast.specs.Text.Parts.{Part, is, is_nothing, parts_of, offset_of, after_words}
-use Rattle.species_ast.specs.Text.Pragmas.{schedule_of, depth_of, parallel_of, atomic_of, or_else, openmp_of}
+use Rattle.species_ast.specs.Text.Pragmas.{schedule_of, depth_of, parallel_of, atomic_of, openmp_of}
 use Rattle.species_ast.specs.Text.Directives.{Form, Skipped, Read, Macro, Wrong, formless, header_len, is_gap, include_with, include_of, is_first_in, is_name, define_as, define_of, is_end, species_of, openmp_form, pragma_with, unless_backslash, pragma_of, parts_form, content_form, first_word, is_include, form_of}
 use Rattle.species_ast.specs.Text.Pieces.{Piece, Space, Lexeme, Define, Refused, line_comment, block_comment, word, number, punctuator, unless_spliced, directive, Start, Blank, LineComment, BlockComment, Letter, Digit, Hash, Other, start_of, piece_in, piece_of}
 use Rattle.species_ast.specs.Text.Stream.{is_definition}
@@ -137,7 +137,7 @@ plain_in : (start : Start) (is_head : Bool) (b : ℕ) (bytes : List ℕ) → Pla
 plain_in Blank is_head b bytes = tt
 plain_in LineComment is_head b bytes = plain_line (suc (line_len bytes)) (splice_at (b ∷ bytes))
 plain_in BlockComment is_head b bytes = plain_block (comment_len (b ∷ bytes))
-plain_in Letter is_head b bytes = plain_word (is_keyword (take (suc (run_of is_word_byte bytes)) (b ∷ bytes)))
+plain_in Letter is_head b bytes = plain_word (is_keyword (take (suc (run_of is_word bytes)) (b ∷ bytes)))
 plain_in Digit is_head b bytes = plain_number (suc (run_more b bytes)) (b ∷ bytes) (literal_of (take (suc (run_more b bytes)) (b ∷ bytes)))
 plain_in Hash true b bytes = plain_directive (suc (line_len bytes)) (splice_at (b ∷ bytes)) (form_of (take (suc (line_len bytes)) (b ∷ bytes))) (plain_form (take (suc (line_len bytes)) (b ∷ bytes)))
 plain_in Hash false b bytes = tt

@@ -1,5 +1,5 @@
 ghost use Rattle.std.specs.Prelude.{◌≡◌, ◌≤◌, length};
-ghost use Rattle.species_ast.specs.Text.Characters.{is_blank, is_letter, is_digit, is_word_byte, run_of, line_len};
+ghost use Rattle.species_ast.specs.Text.Characters.{is_blank, is_letter, is_digit, is_word, run_of, line_len};
 
 pub(crate) fn is_blank(b: u8) -> bool
     ensures { result ≡ is_blank b }
@@ -11,25 +11,25 @@ pub(crate) fn is_blank(b: u8) -> bool
 pub(crate) fn is_letter(b: u8) -> bool
     ensures { result ≡ is_letter b }
 {
-    b.is_ascii_alphabetic() || b == b'_'
+    (b'A' <= b && b <= b'Z') || (b'a' <= b && b <= b'z') || b == b'_'
 }
 
 pub(crate) fn is_digit(b: u8) -> bool
     ensures { result ≡ is_digit b }
 {
-    b.is_ascii_digit()
+    b'0' <= b && b <= b'9'
 }
 
 /// A letter, a digit or `_`.
 pub(crate) fn is_word_byte(b: u8) -> bool
-    ensures { result ≡ is_word_byte b }
+    ensures { result ≡ is_word b }
 {
     is_letter(b) || is_digit(b)
 }
 
 /// How many bytes of a word stand at the front.
 pub(crate) fn word_len(bytes: &[u8]) -> usize
-    ensures value { result ≡ run_of is_word_byte bytes.now }
+    ensures value { result ≡ run_of is_word bytes.now }
     ensures within { result ≤ length bytes.now }
 {
     bytes.iter().take_while(|b| is_word_byte(**b)).count()

@@ -80,7 +80,6 @@ fn first_len(words: &[&str], bytes: &[u8]) -> usize
     0
 }
 
-#[tactic(auto, unfolding(species_ast::specs::Text::Words::keywords))]
 pub(crate) fn is_keyword(word: &[u8]) -> bool
     ensures { result ≡ is_keyword word.now }
 {

@@ -25,12 +25,12 @@ splice_at bytes =
 
 -- ---- in a directive, where a comment that is closed on the line counts as a blank
 
--- as many items as stand one after the other at the front, each as long as `item` says; 0 is no item.
--- The first number bounds how many, and is never too small where it is the length of the bytes.
 abbrev pub and_more : ℕ → (List ℕ → ℕ) → List ℕ → ℕ
 and_more zero more bytes = 0
 and_more (suc n) more bytes = suc n + more (drop (suc n) bytes)
 
+-- How many bytes the items have that stand one after the other at the front, each as long as `item` says; 0 is
+-- no item. The number bounds how many, and is never too small where it is the length of the bytes.
 abbrev pub many : (List ℕ → ℕ) → ℕ → List ℕ → ℕ
 many item zero bytes = 0
 many item (suc m) bytes = and_more (item bytes) (many item m) bytes

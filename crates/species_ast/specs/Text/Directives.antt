@@ -1,6 +1,6 @@
--- What stands on a line that begins with `#` (C17 6.10): every function takes the whole line, with its `#`.
+-- What stands on a line that begins with `#` (C17 6.10). A `line` is the whole line, with its `#`.
 use Rattle.std.specs.Prelude.{ℕ, ◌+◌, Bool, false, not, ◌||◌, ◌&&◌, nat_eq, if◌then◌else◌, List, [], ◌∷◌, length, take, drop, codes, bytes_eq, slice_range, Option, Some, None, position, option_map}
-use Rattle.species_ast.specs.Text.Characters.{is_letter, is_digit, is_word_byte, begins, run_of}
+use Rattle.species_ast.specs.Text.Characters.{is_letter, is_digit, is_word, begins, run_of}
 use Rattle.species_ast.specs.Text.Comments.{gap_len, content_len}
 use Rattle.species_ast.specs.Text.Words.{is_keyword}
 use Rattle.species_ast.specs.Text.Parts.{Part, is, is_nothing, parts_of, parts_end, offset_of}
@@ -124,7 +124,7 @@ first_word line = drop (gap_len (drop 1 line)) (drop 1 line)
 
 -- the first word is `include`
 abbrev pub is_include : List ℕ → Bool
-is_include line = let word = first_word line in bytes_eq (take (run_of is_word_byte word) word) (codes "include")
+is_include line = let word = first_word line in bytes_eq (take (run_of is_word word) word) (codes "include")
 
 unfoldable pub form_of : List ℕ → Form
 form_of line =

@@ -1,6 +1,7 @@
 -- The load of a list of tokens: what an unfinished statement and the lists around it hold.
 use Rattle.std.specs.Prelude.{ℕ, ◌+◌, ◌-◌, Bool, false, ◌&&◌, ◌||◌, not, nat_eq, nat_lt, if◌then◌else◌, List, [], ◌∷◌, codes, bytes_eq, Option, Some, None}
 use Rattle.species_ast.specs.Token.{Token}
+use Rattle.species_ast.specs.Text.Stream.{grammar_tokens}
 use Rattle.species_ast.specs.declared.token.TokenKind.{TokenKind}
 use Rattle.species_ast.specs.declared.token.TokenKind.TheVariants as kind
 
@@ -57,6 +58,6 @@ first_above most l (t ∷ ts) =
     let after = counted t l in
     if nat_lt most after.load then Some t.place else first_above most (settled t ts after) ts
 
--- the first token of the grammar's list with which the load becomes 2,001
+-- of a text's tokens, the first of the grammar's list with which the load becomes 2,001
 abbrev pub load_refusal : List Token → Option ℕ
-load_refusal ts = first_above 2000 (record { load = 0; blocks = []; brackets = 0 }) ts
+load_refusal ts = first_above 2000 (record { load = 0; blocks = []; brackets = 0 }) (grammar_tokens ts)

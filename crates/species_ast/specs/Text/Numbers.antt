@@ -2,7 +2,7 @@
 use Rattle.std.specs.Prelude.{ℕ, suc, ◌-◌, Bool, not, ◌||◌, ◌&&◌, ◌==◌, nat_le, nat_lt, nat_eq, if◌then◌else◌, List, [], ◌∷◌, length, take, drop, codes, pos, Option, Some, None}
 use Rattle.std.specs.List.{list_all, ends_with}
 use Rattle.std.specs.Str.Parse.{digits_value}
-use Rattle.species_ast.specs.Text.Characters.{is_digit, is_hex_digit, is_word_byte, begins}
+use Rattle.species_ast.specs.Text.Characters.{is_digit, is_hex_digit, is_word, begins}
 use Rattle.species_ast.specs.declared.tree.Value.{Value}
 use Rattle.species_ast.specs.declared.tree.Value.TheVariants as value
 
@@ -16,7 +16,7 @@ is_sign b = b == 43 || b == 45
 
 -- whether a run that has come to `last` goes on with `next`
 abbrev pub goes_on : ℕ → ℕ → Bool
-goes_on last next = is_word_byte next || next == 46 || (is_sign next && is_exponent last)
+goes_on last next = is_word next || next == 46 || (is_sign next && is_exponent last)
 
 -- how many bytes the run goes on for behind its byte `last`
 abbrev pub run_more : ℕ → List ℕ → ℕ
@@ -50,9 +50,13 @@ unsigned_literal n = if nat_le n 4294967295 then Some (value.Unsigned n) else No
 abbrev pub int_literal : ℕ → Option Value
 int_literal n = if nat_le n 2147483647 then Some (value.Int (pos n)) else None
 
+abbrev pub or_else : {X : Type 0} → Option X → Option X → Option X
+or_else (Some x) other = Some x
+or_else None other = other
+
 -- a hexadecimal literal that is too large for `int` is `unsigned`
 abbrev pub hex_literal : ℕ → Option Value
-hex_literal n = if nat_le n 2147483647 then int_literal n else unsigned_literal n
+hex_literal n = or_else (int_literal n) (unsigned_literal n)
 
 abbrev pub decimal_value : Bool → List ℕ → Option Value
 decimal_value is_unsigned digits =

@@ -1,6 +1,6 @@
 -- The parts of a directive's content: words, number runs, and single other bytes (C17 6.4, preprocessing tokens).
 use Rattle.std.specs.Prelude.{ℕ, zero, suc, ◌+◌, Bool, true, false, if◌then◌else◌, List, [], ◌∷◌, length, take, drop, bytes_eq, Option, Some, None}
-use Rattle.species_ast.specs.Text.Characters.{is_letter, is_digit, is_word_byte, run_of}
+use Rattle.species_ast.specs.Text.Characters.{is_letter, is_digit, is_word, run_of}
 use Rattle.species_ast.specs.Text.Comments.{gap_len}
 use Rattle.species_ast.specs.Text.Numbers.{run_more}
 
@@ -12,7 +12,7 @@ pub record Part : Type 0 where
 -- how many bytes a part that begins with `b` has
 abbrev pub part_len : ℕ → List ℕ → ℕ
 part_len b bytes =
-    if is_letter b then suc (run_of is_word_byte bytes)
+    if is_letter b then suc (run_of is_word bytes)
     else if is_digit b then suc (run_more b bytes)
     else 1
 

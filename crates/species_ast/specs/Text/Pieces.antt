@@ -1,6 +1,6 @@
 -- What stands at the front of some bytes: a blank, a comment, a directive, a token, or what is none of these.
 use Rattle.std.specs.Prelude.{ℕ, zero, suc, Bool, true, false, if◌then◌else◌, nat_eq, List, ◌∷◌, take, codes, Option, Some, None, Result, Ok, Err}
-use Rattle.species_ast.specs.Text.Characters.{is_blank, is_letter, is_digit, is_word_byte, begins, run_of, line_len}
+use Rattle.species_ast.specs.Text.Characters.{is_blank, is_letter, is_digit, is_word, begins, run_of, line_len}
 use Rattle.species_ast.specs.Text.Comments.{comment_len, splice_at}
 use Rattle.species_ast.specs.Text.Numbers.{run_more, literal_of}
 use Rattle.species_ast.specs.Text.Words.{is_keyword, punctuator_len}
@@ -86,7 +86,7 @@ abbrev pub piece_in : Start → Bool → ℕ → List ℕ → Piece
 piece_in Blank is_head b bytes = Space 1
 piece_in LineComment is_head b bytes = line_comment (suc (line_len bytes)) (splice_at (b ∷ bytes))
 piece_in BlockComment is_head b bytes = block_comment (comment_len (b ∷ bytes))
-piece_in Letter is_head b bytes = word (suc (run_of is_word_byte bytes)) (b ∷ bytes)
+piece_in Letter is_head b bytes = word (suc (run_of is_word bytes)) (b ∷ bytes)
 piece_in Digit is_head b bytes =
     number (suc (run_more b bytes)) (b ∷ bytes) (literal_of (take (suc (run_more b bytes)) (b ∷ bytes)))
 piece_in Hash true b bytes =

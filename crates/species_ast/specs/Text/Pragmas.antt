@@ -1,6 +1,6 @@
 -- The pragmas of OpenMP that are read (OpenMP 4.5, 2.7.1 and 2.13.6), by the parts behind the word `pragma`.
 use Rattle.std.specs.Prelude.{ℕ, Bool, false, not, ◌&&◌, nat_le, if◌then◌else◌, List, [], ◌∷◌, codes, pos, Option, Some, None, option_map, option_and_then, unwrap_or}
-use Rattle.species_ast.specs.Text.Numbers.{literal_of}
+use Rattle.species_ast.specs.Text.Numbers.{literal_of, or_else}
 use Rattle.species_ast.specs.Text.Parts.{Part, is, is_nothing, after_words}
 use Rattle.species_ast.specs.declared.tree.Value.{Value}
 use Rattle.species_ast.specs.declared.tree.Value.TheVariants as value
@@ -70,10 +70,6 @@ parallel_of ps = option_map (λ s. kind.Parallel (depth_of ps).0 s) (schedule_of
 
 abbrev pub atomic_of : List Part → Option TokenKind
 atomic_of ps = if is_nothing ps then Some kind.Atomic else None
-
-abbrev pub or_else : {X : Type 0} → Option X → Option X → Option X
-or_else (Some x) other = Some x
-or_else None other = other
 
 -- a pragma of OpenMP that is read, by the parts behind `pragma`
 unfoldable pub openmp_of : List Part → Option TokenKind

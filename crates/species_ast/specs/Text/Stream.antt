@@ -89,7 +89,8 @@ pub data Cut : ℕ → Bool → List Definition → List ℕ → TokenStream →
 abbrev pub IsCut : List ℕ → TokenStream → Type 0
 IsCut text s = Cut 0 true [] text s
 
--- ---- the same as a function
+-- ---- the same as a function, which is equal to the relation by the law of the text: where an answer below
+-- is for a case that no text comes to, it is the empty stream
 
 abbrev pub cut_piece : (ℕ → Bool → List Definition → List ℕ → TokenStream) → ℕ → Bool → List Definition → List ℕ → Piece → TokenStream
 cut_piece more place is_head ds bytes (Space n) = more (place + n) (head_behind is_head (take n bytes)) ds (drop n bytes)
