@@ -1,6 +1,6 @@
 -- Small programs, what they become, and why they are refused, by computation. Each is put together from parts of which is
 -- known what they become.
-use Rattle.std.proofs.Common.{◌≡◌, ◌∙◌, ap, refl, ℕ, ◌+◌, List, [], ◌∷◌, ◌++◌, map, flat_map, Option, Some, None, option_map, Bool, true, false, ℤ, pos, negsuc, Result, Ok, Err}
+use Rattle.std.proofs.Common.{◌≡◌, ◌∙◌, ap, refl, ℕ, ◌+◌, List, [], ◌∷◌, map, flat_map, Option, Some, None, option_map, Bool, true, false, pos, negsuc, Result, Ok, Err}
 use Rattle.std.specs.Prelude.{codes}
 use Rattle.std.specs.List.{filter_map}
 use Prim.Native.String.{String}
@@ -9,7 +9,6 @@ use Rattle.species_ast.specs.Grammar.Expressions.{expression, target, place_of}
 use Rattle.species_ast.specs.Grammar.Declarations.{statement}
 use Rattle.species_ast.specs.declared.tree.Kind.{Kind}
 use Rattle.species_ast.specs.declared.tree.Kind.TheVariants as kind
-use Rattle.species_ast.specs.declared.tree.Value.{Value}
 use Rattle.species_ast.specs.declared.tree.Value.TheVariants as value
 use Rattle.species_ast.specs.declared.tree.Binary.{Binary}
 use Rattle.species_ast.specs.declared.tree.Binary.TheVariants as binary
@@ -29,7 +28,6 @@ use Rattle.species_ast.specs.declared.tree.Unit.{Unit}
 use Rattle.species_ast.specs.declared.raw.RawExpr.{RawExpr}
 use Rattle.species_ast.specs.declared.raw.RawTarget.{RawTarget}
 use Rattle.species_ast.specs.declared.raw.RawTerm.TheVariants as term
-use Rattle.species_ast.specs.declared.raw.RawArray.{RawArray}
 use Rattle.species_ast.specs.declared.raw.RawItem.{RawItem}
 use Rattle.species_ast.specs.declared.raw.RawItem.TheVariants as item
 use Rattle.species_ast.specs.declared.raw.RawLocal.{RawLocal}
@@ -39,18 +37,19 @@ use Rattle.species_ast.specs.declared.raw.RawChange.TheVariants as change
 use Rattle.species_ast.specs.declared.raw.RawStep.{RawStep}
 use Rattle.species_ast.specs.declared.raw.RawStep.TheVariants as step
 use Rattle.species_ast.specs.declared.raw.RawStmt.{RawStmt}
-use Rattle.species_ast.specs.declared.raw.RawLoop.{RawLoop, roll-RawLoop}
+use Rattle.species_ast.specs.declared.raw.RawLoop.{roll-RawLoop}
 use Rattle.species_ast.specs.declared.raw.RawWhat.TheVariants as what
 use Rattle.species_ast.specs.declared.raw.RawUnit.{RawUnit}
 use Rattle.species_ast.specs.Scope.Meanings.{Scope}
-use Rattle.species_ast.specs.Scope.Expressions.{Reading, Target, reading, target_of, taken, two_parts, one_part, names_of}
-use Rattle.species_ast.specs.Scope.Statements.{Walk, StepReading, Parts, step_by, step_one, step_reading, in_order, local_piece, declarator, change_by, change_by_one, change_piece, operated, increased, combined, atomic_piece, if_piece, block_piece, empty_piece, loop_piece, stmt_piece}
-use Rattle.species_ast.specs.Scope.Programs.{SizeParts, size_parts, ArrayParts, parts_of, Program, program_with, settled, program_of, arrays_of, header_of}
+use Rattle.species_ast.specs.Scope.Expressions.{Reading, Target, reading, target_of, taken, two_parts}
+use Rattle.species_ast.specs.Scope.Statements.{Walk, StepReading, step_by, step_one, step_reading, in_order, local_piece, declarator, change_by, change_by_one, operated, increased, combined, atomic_piece, if_piece, block_piece, empty_piece, loop_piece, stmt_piece}
+use Rattle.species_ast.specs.Scope.Programs.{SizeParts, size_parts, ArrayParts, Program, program_with, settled, program_of, arrays_of, header_of}
 use Rattle.species_ast.specs.Scope.Refusals.{Limit, Refusal, Finding}
 use Rattle.species_ast.specs.Scope.Limits.{NestLimits}
+use Rattle.species_ast.specs.Scope.WellMade.{Around, list_holds, made}
 use Rattle.species_ast.specs.Scope.Conditions.{answer_of, resolved}
 use Rattle.species_ast.proofs.Folds.{fold_expr-Literal, fold_expr-Iter, fold_expr-Local, fold_expr-Elem, fold_expr-Unary, fold_expr-Binary, fold_stmt-Assign, fold_stmt-AddTo, fold_stmt-Declare, fold_stmt-SetLocal, fold_stmt-If, fold_stmt-For, fold_stmt-Block, fold_loop}
-use Rattle.species_ast.proofs.ScopeLaws.{reading-Number, reading-Target, reading-Paren, reading-Binary, readings, target_with, target_of-target, stmt_piece-Declare, stmt_piece-Block, stmt_piece-Empty, stmt_piece-If, stmt_piece-IfElse, stmt_piece-Change, stmt_piece-Atomic, stmt_piece-Loop}
+use Rattle.species_ast.proofs.ScopeLaws.{reading-Number, reading-Target, reading-Binary, readings, target_with, target_of-target, stmt_piece-Declare, stmt_piece-Block, stmt_piece-Empty, stmt_piece-If, stmt_piece-IfElse, stmt_piece-Change, stmt_piece-Atomic, stmt_piece-Loop}
 
 -- ---- expressions
 
@@ -619,7 +618,6 @@ marked depth p n limit s = loop p (record {
   body = s;
 })
 
--- a mark of depth 2, and a block of one loop: it fits
 -- a second mark inside
 abbrev mark_in_nest : KnownProgram
 mark_in_nest = program [] k_at_5 (marked 1 20 "i" (num 40 4) (marked 1 60 "j" (num 80 4) (empty 90)) ∷ [])
@@ -702,6 +700,41 @@ blocks = program [] k_at_5 (block 15 (declare 17 kind.Int (plain 21 "x" ∷ []) 
 nested_blocks : answers blocks (unit [] (int_local "x" ∷ int_local "x" ∷ []) (
     stmt.Block (stmt.Declare 21 0 None ∷ stmt.Block [] ∷ []) ∷ stmt.Block (stmt.Declare 36 1 None ∷ []) ∷ []))
 nested_blocks = answer blocks _ refl
+
+-- a mark of depth 2 on a loop over a block of one loop: it fits
+abbrev two_deep : KnownProgram
+two_deep = program [] k_at_5 (marked 2 20 "i" (num 40 4) (block 50 (block 55 (count_up 60 "j" (num 80 4) (empty 90) ∷ []) ∷ [])) ∷ [])
+
+abbrev two_deep_body : List Stmt
+two_deep_body = stmt.For (roll-Loop (record {
+  place = 20;
+  iter = codes "i";
+  start = int 0;
+  test = test.Lt;
+  limit = int 4;
+  step = pos 1;
+  body = stmt.Block (loop_to_4 60 "j" [] ∷ []) ∷ [];
+  line = None;
+  mark = mark.Parallel 2 schedule.Static;
+})) ∷ []
+
+marked_two_deep : answers two_deep (unit [] [] two_deep_body)
+marked_two_deep = answer two_deep _ (simp folded refl)
+
+-- its unit is well made ..
+abbrev outside_all : List Array → Around
+outside_all arrays = record { arrays = arrays; locals = []; level = 0; in_nest = false }
+
+two_deep_made : list_holds (map made two_deep_body) (outside_all []) ≡ true
+two_deep_made = simp folded refl
+
+-- .. and a statement that sets a local which is declared in an earlier block is not
+lost_local : list_holds (map made (stmt.Block (stmt.Declare 0 0 None ∷ []) ∷ stmt.SetLocal 9 0 (int 1) ∷ [])) (outside_all []) ≡ false
+lost_local = simp folded refl
+
+-- nor is an element with two subscripts of an array of one dimension
+one_dimension : list_holds (map made (stmt.Assign 0 0 (int 1 ∷ int 2 ∷ []) (int 1) ∷ [])) (outside_all (array_a ∷ [])) ≡ false
+one_dimension = simp folded refl
 
 -- `x += 1` under an atomic pragma is no addition to an array: `void k(void) { int x; x += 1; }`, and `A[0] += 1` is one
 abbrev atomics : KnownProgram

@@ -1,5 +1,5 @@
 -- What each construct of the grammar becomes, from what its parts become.
-use Rattle.std.proofs.Common.{◌≡◌, ◌∙◌, ap, sym, refl, ℕ, List, [], ◌∷◌, map, Option, Some, None}
+use Rattle.std.proofs.Common.{◌≡◌, ◌∙◌, ap, sym, ℕ, List, [], map, Some, None}
 use Rattle.species_ast.specs.Spelling.{Spelling}
 use Rattle.species_ast.specs.Grammar.Expressions.{expression, target, place_of}
 use Rattle.species_ast.specs.Grammar.Declarations.{statement}
@@ -8,14 +8,14 @@ use Rattle.species_ast.specs.declared.tree.Value.{Value}
 use Rattle.species_ast.specs.declared.tree.Binary.{Binary}
 use Rattle.species_ast.specs.declared.tree.Expr.TheVariants as expr
 use Rattle.species_ast.specs.declared.raw.RawUnary.{RawUnary}
-use Rattle.species_ast.specs.declared.raw.RawExpr.{RawExpr, roll-RawExpr, fold-RawExpr, fold-roll-RawExpr}
+use Rattle.species_ast.specs.declared.raw.RawExpr.{RawExpr, fold-roll-RawExpr}
 use Rattle.species_ast.specs.declared.raw.RawTerm.{RawTerm, roll-RawTerm, map-RawTerm, fold-RawTerm, fold-roll-RawTerm}
-use Rattle.species_ast.specs.declared.raw.RawTarget.{RawTarget, fold-RawTarget, fold-roll-RawTarget}
+use Rattle.species_ast.specs.declared.raw.RawTarget.{RawTarget, fold-roll-RawTarget}
 use Rattle.species_ast.specs.declared.raw.RawTerm.TheOpen.{RawTerm-F}
 use Rattle.species_ast.specs.declared.raw.RawTerm.TheVariants as term
 use Rattle.species_ast.specs.declared.raw.RawLocal.{RawLocal}
 use Rattle.species_ast.specs.declared.raw.RawChange.{RawChange}
-use Rattle.species_ast.specs.declared.raw.RawStmt.{RawStmt, fold-RawStmt, fold-roll-RawStmt}
+use Rattle.species_ast.specs.declared.raw.RawStmt.{RawStmt, fold-roll-RawStmt}
 use Rattle.species_ast.specs.declared.raw.RawWhat.{RawWhat, roll-RawWhat, map-RawWhat, fold-RawWhat, fold-roll-RawWhat}
 use Rattle.species_ast.specs.declared.raw.RawLoop.{RawLoop, roll-RawLoop, fold-RawLoop, fold-roll-RawLoop}
 use Rattle.species_ast.specs.declared.raw.RawWhat.TheOpen.{RawWhat-F, RawLoop-F}

@@ -1,10 +1,8 @@
 -- The conditions under which a program is refused, each with the places where it holds.
-use Rattle.std.specs.Prelude.{◌≡◌, ℕ, Bool, true, false, ◌&&◌, ◌||◌, not, nat_lt, nat_le, nat_eq, List, [], ◌∷◌, ◌++◌, map, flat_map, length, ℤ, pos, int_lt, unsigned_abs, Option, Some, None, is_some, is_none, Result, Ok, Err}
-use Rattle.std.specs.List.{list_any, list_all}
+use Rattle.std.specs.Prelude.{◌≡◌, ℕ, Bool, true, false, ◌&&◌, not, nat_lt, nat_le, nat_eq, List, [], ◌∷◌, ◌++◌, flat_map, length, ℤ, unsigned_abs, Option, Some, None, is_some, is_none, Result, Ok, Err}
 use Rattle.species_ast.specs.declared.tree.Kind.{Kind}
 use Rattle.species_ast.specs.declared.tree.Kind.TheVariants as kind
 use Rattle.species_ast.specs.declared.tree.Test.{Test}
-use Rattle.species_ast.specs.declared.tree.Test.TheVariants as test
 use Rattle.species_ast.specs.declared.tree.Array.{Array}
 use Rattle.species_ast.specs.declared.tree.Expr.{Expr}
 use Rattle.species_ast.specs.declared.tree.Loop.{out-Loop}
@@ -14,8 +12,7 @@ use Rattle.species_ast.specs.Scope.Forms.{form_of, iterators_in}
 use Rattle.species_ast.specs.Scope.Meanings.{Meaning, is_among, Role, Declared, Taken, Set, Iterates, InHeader, Occurrence}
 use Rattle.species_ast.specs.Scope.Limits.{most_loops, most_dimensions, most_step, most_references, has_lawful_sizes, goes, NestLimits}
 use Rattle.species_ast.specs.Scope.Nests.{front_of, is_bad_mark}
-use Rattle.species_ast.specs.Scope.Statements.{LoopSite}
-use Rattle.species_ast.specs.Scope.Programs.{ArraySite, Size, Program, iterators_of, program_of}
+use Rattle.species_ast.specs.Scope.Programs.{Program, iterators_of, program_of}
 use Rattle.species_ast.specs.Scope.Refusals.{Limit, Refusal, Finding, first_of_groups, refused_at, places_where}
 
 -- ---- names

@@ -1,5 +1,5 @@
 -- What an expression becomes in the scope where it stands, and the names in it.
-use Rattle.std.specs.Prelude.{ℕ, List, [], ◌∷◌, ◌++◌, map, flat_map, length, pos, Option, Some, None}
+use Rattle.std.specs.Prelude.{List, [], ◌∷◌, ◌++◌, map, flat_map, length, pos, Option, Some, None}
 use Rattle.species_ast.specs.Spelling.{Spelling}
 use Rattle.species_ast.specs.declared.tree.Value.TheVariants.{Int}
 use Rattle.species_ast.specs.declared.tree.Unary.TheVariants as unary

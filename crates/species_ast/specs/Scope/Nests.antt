@@ -4,7 +4,6 @@ use Rattle.std.specs.List.{list_any}
 use Rattle.species_ast.specs.declared.tree.Expr.{Expr}
 use Rattle.species_ast.specs.declared.tree.Mark.{Mark}
 use Rattle.species_ast.specs.declared.tree.Mark.TheVariants.{Plain, Parallel}
-use Rattle.species_ast.specs.declared.tree.Stmt.{Stmt}
 use Rattle.species_ast.specs.declared.tree.Loop.{Loop, fold-Loop}
 use Rattle.species_ast.specs.declared.tree.Stmt.TheOpen.{Stmt-F, Loop-F}
 use Rattle.species_ast.specs.Scope.Forms.{iterators_in}

@@ -1,5 +1,5 @@
 -- What a whole program becomes.
-use Rattle.std.specs.Prelude.{ℕ, suc, false, List, [], ◌∷◌, ◌++◌, map, flat_map, length, ℤ, pos, negsuc, Option, Some, None, option_and_then}
+use Rattle.std.specs.Prelude.{ℕ, suc, false, List, [], ◌∷◌, ◌++◌, map, flat_map, length, ℤ, pos, negsuc, Option, Some, None}
 use Rattle.std.specs.List.{filter_map}
 use Rattle.species_ast.specs.Spelling.{Spelling}
 use Rattle.species_ast.specs.declared.tree.Kind.{Kind}
@@ -118,9 +118,13 @@ local_in role means = None
 abbrev pub iterators_of : List Occurrence → List ℕ
 iterators_of names = filter_map (λ o. local_in o.role o.means) names
 
--- What its names mean is the same whichever locals are the iterators of loops, and tells which are.
+-- A first walk tells what the names mean, and so which locals are the iterators of loops; a second, which knows these, tells
+-- what becomes of the program.
 abbrev pub settled : (List ℕ → Program) → Program
-settled p = p (iterators_of (p []).names)
+settled walk =
+    let names = (walk []).names in
+    let second = walk (iterators_of names) in
+    record second { names = names }
 
 -- What a program becomes.
 abbrev pub program_of : RawUnit → Program

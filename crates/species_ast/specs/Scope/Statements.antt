@@ -1,5 +1,5 @@
 -- What a statement becomes in the scope where it stands, and what is noted on the way: locals, names and loops.
-use Rattle.std.specs.Prelude.{ℕ, suc, Bool, true, false, ◌&&◌, ◌||◌, bytes_eq, if◌then◌else◌, List, [], ◌∷◌, ◌++◌, map, length, ℤ, pos, negsuc, neg_ℤ, Option, Some, None, option_map, is_some, unwrap_or}
+use Rattle.std.specs.Prelude.{ℕ, Bool, true, false, bytes_eq, if◌then◌else◌, List, [], ◌∷◌, ◌++◌, map, length, ℤ, pos, negsuc, neg_ℤ, Option, Some, None, option_map, is_some, unwrap_or}
 use Rattle.std.specs.List.{list_all}
 use Rattle.species_ast.specs.Spelling.{Spelling}
 use Rattle.species_ast.specs.Line.{Line}
@@ -17,8 +17,6 @@ use Rattle.species_ast.specs.declared.tree.LocalInfo.{LocalInfo}
 use Rattle.species_ast.specs.declared.tree.Stmt.{Stmt}
 use Rattle.species_ast.specs.declared.tree.Stmt.TheVariants as stmt
 use Rattle.species_ast.specs.declared.tree.Loop.{Loop, roll-Loop}
-use Rattle.species_ast.specs.declared.raw.RawExpr.{RawExpr}
-use Rattle.species_ast.specs.declared.raw.RawTarget.{RawTarget}
 use Rattle.species_ast.specs.declared.raw.RawLocal.{RawLocal}
 use Rattle.species_ast.specs.declared.raw.RawOp.{RawOp}
 use Rattle.species_ast.specs.declared.raw.RawOp.TheVariants as op
@@ -30,8 +28,8 @@ use Rattle.species_ast.specs.declared.raw.RawStmt.{RawStmt, fold-RawStmt}
 use Rattle.species_ast.specs.declared.raw.RawWhat.TheOpen.{RawWhat-F, RawStmt-F, RawLoop-F}
 use Rattle.species_ast.specs.Grammar.Expressions.{place_of}
 use Rattle.species_ast.specs.Scope.Forms.{constant_of}
-use Rattle.species_ast.specs.Scope.Meanings.{Meaning, Local, Scope, with_local, in_loop, behind, is_among, number_of, Role, Declared, Set, Iterates, InHeader, Occurrence, occurrence}
-use Rattle.species_ast.specs.Scope.Expressions.{Reading, Target, reading, target_of, value_of, nothing}
+use Rattle.species_ast.specs.Scope.Meanings.{Meaning, Scope, with_local, in_loop, behind, is_among, number_of, Role, Declared, Set, Iterates, InHeader, Occurrence, occurrence}
+use Rattle.species_ast.specs.Scope.Expressions.{Reading, Target, reading, target_of, value_of}
 use Rattle.species_ast.specs.Scope.Nests.{is_parallel}
 
 -- ---- what is noted
@@ -92,7 +90,7 @@ in_order (p ∷ ps) s =
     let rest = in_order ps first.next in
     piece (first.statements ++ rest.statements) (both first.notes rest.notes) rest.next
 
--- ---- declarations
+-- ---- declarations (C17 6.7)
 
 -- a local that its declaration keeps: its number is that of the locals before it that are kept too
 abbrev pub kept_local : Kind → Spelling → Option Reading → Scope → List Stmt
@@ -110,7 +108,7 @@ local_piece k name init s =
 abbrev pub declarator : Kind → RawLocal → Walk
 declarator k l = local_piece k l.name (option_map reading l.init)
 
--- ---- changes
+-- ---- changes (C17 6.5.16, 6.5.2.4 and 6.5.3.1)
 
 abbrev pub one : Expr
 one = expr.Literal (Int (pos 1))
@@ -182,7 +180,7 @@ change_piece p (change.DownBefore t) = change_by_one (λ s. combined s p binary.
 abbrev pub atomic_piece : ℕ → (Scope → Target) → (Scope → Reading) → Walk
 atomic_piece p = change_by (λ s. increased s p true)
 
--- ---- loops
+-- ---- loops (C17 6.8.5)
 
 -- A step: the names that stand where the iterator should, the names of its expression, and its number, if it is constant.
 pub record StepReading : Type 0 where
@@ -276,7 +274,7 @@ loop_piece l p s =
     } in
     piece (stmt.For loop ∷ []) (both (record { locals = []; names = names; loops = site ∷ [] }) body.notes) (behind s body.next)
 
--- ---- blocks and branches
+-- ---- blocks and branches (C17 6.8.2 and 6.8.4)
 
 -- a statement as the body of a loop or a branch, which is a scope of its own
 abbrev pub branch : Walk → Walk
