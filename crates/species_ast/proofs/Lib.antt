@@ -1,4 +1,5 @@
 pub mod AccessLaws
+pub mod ArrayLaws
 pub mod Cutting
 pub mod Examples
 pub mod Folds
