@@ -5,6 +5,7 @@ pub mod Examples
 pub mod Folds
 pub mod Grammar
 pub mod Induction
+pub mod IterationLaws
 pub mod IteratorLaws
 pub mod KindLaws
 pub mod RunLaws
