@@ -1,7 +1,9 @@
 -- Each value that an expression gives has the expression's kind, each element is given values of its array's kind, each
 -- local holds values of its own, and a program does nothing that is forbidden to an iteration alone.
-use Rattle.std.proofs.Common.{◌≡◌, refl, ap, sym, ◌∙◌, subst, ℕ, zero, suc, ◌+◌, List, [], ◌∷◌, ◌++◌, map, length, Option, Some, None, Bool, true, false, ℤ, pos, Ok, Err, if◌then◌else◌, ◌⊎◌, inl, inr, ⊎_elim}
-use Rattle.std.specs.Prelude.{slice_get, slice_set, unwrap_or}
+use Rattle.std.proofs.Common.{◌≡◌, arith, refl, ap, sym, ◌∙◌, subst, ℕ, zero, suc, ◌+◌, List, [], ◌∷◌, ◌++◌, map, length, Option, Some, None, Bool, true, false, ℤ, pos, negsuc, Ok, Err, if◌then◌else◌, ◌⊎◌, inl, inr, ⊎_elim}
+use Rattle.std.specs.Prelude.{slice_get, slice_set, unwrap_or, option_map, option_and_then, nat_lt, ◌<◌, ◌≤◌, ◌*◌}
+use Rattle.std.proofs.Math.Nat.{mul-le-mul_right}
+use Rattle.std.proofs.lemmas.Bool.Decides.{nat_tests}
 use Rattle.std.proofs.lemmas.Bool.{cases_Bool}
 use Rattle.species_ast.specs.declared.tree.Kind.{Kind}
 use Rattle.species_ast.specs.declared.tree.Kind.TheVariants as kind
@@ -18,9 +20,9 @@ use Rattle.species_ast.specs.declared.trap.Undefined.TheVariants.{Overflow, DivZ
 use Rattle.species_ast.specs.Operators.{Answer, kind_of, number_of, in_kind, joint, reduced, converted, bits_of, bits_in, is_signed, fits, from_bits, exact_in, quotient, remainder, and_then, truth, is_true, is_count, left_by, right_by, binary_in, binary_of, binary_kind, unary_of, unary_kind, is_shift}
 use Rattle.std.specs.Ordering.{int_eq}
 use Rattle.std.specs.Prelude.{int_div, int_lt, int_le, unsigned_abs, bit_and, bit_or, bit_xor, ◌-ℤ◌, ◌*ℤ◌, not}
-use Rattle.species_ast.specs.Accesses.{Cause, Trapped, Forbidden, Site, Tree, Ret, Stop, Read, Write, then_do}
+use Rattle.species_ast.specs.Accesses.{Element, Cause, Trapped, Forbidden, Site, Tree, Ret, Stop, Read, Write, then_do}
 use Rattle.species_ast.specs.Accesses as access
-use Rattle.species_ast.specs.Evaluation.{Frame, Context, Spot, Sense, sense, sense_at, array_kind, local_kind, local_of, with_local, known, answered, tested, indices_in, sizes_of, site_at, values_of, target_of, elements_in, element_at, iterator}
+use Rattle.species_ast.specs.Evaluation.{Frame, Context, Spot, Sense, sense, sense_at, array_kind, local_kind, local_of, with_local, known, answered, tested, indices_in, sizes_of, site_at, values_of, target_of, elements_in, element_at, iterator, index_in, row_order, product}
 use Rattle.species_ast.specs.declared.tree.Stmt.{Stmt}
 use Rattle.species_ast.specs.declared.tree.Stmt.TheOpen.{Loop-F}
 use Rattle.species_ast.specs.declared.tree.Stmt.TheVariants as s
@@ -34,14 +36,14 @@ use Rattle.species_ast.proofs.RunLaws.{sense-Literal, sense-Iter, sense-Local, s
 
 -- ---- operators
 
-abbrev HasKind : Kind → Value → Type 0
+abbrev pub HasKind : Kind → Value → Type 0
 HasKind k v = kind_of v ≡ k
 
-abbrev AnswerOf : Kind → Answer → Type 0
+abbrev pub AnswerOf : Kind → Answer → Type 0
 AnswerOf k (Ok v) = HasKind k v
 AnswerOf k (Err why) = Unit {0}
 
-kind-in_kind : (k : Kind) (n : ℤ) → kind_of (in_kind k n) ≡ k
+pub kind-in_kind : (k : Kind) (n : ℤ) → kind_of (in_kind k n) ≡ k
 kind-in_kind kind.Int n = refl
 kind-in_kind kind.Unsigned n = refl
 
@@ -106,22 +108,26 @@ abbrev pub IsAllowed : Cause → Type 0
 IsAllowed (Trapped t) = Unit {0}
 IsAllowed Forbidden = ⊥
 
--- where each read gives a value of its array's kind, each value written or added has its array's kind, nothing forbidden
--- is done, and P holds of what is computed
+-- an element of the arrays that are declared
+abbrev pub InArray : Context → Element → Type 0
+InArray w el = el.at < product (sizes_of w el.array)
+
+-- where each read gives a value of its array's kind: each access is to an element that there is, each value written or
+-- added has its array's kind, nothing forbidden is done, and P holds of what is computed
 abbrev pub Keeps : {X : Type 0} → Context → (X → Type 0) → Tree X → Type 0
 Keeps w P (Ret x) = P x
 Keeps w P (Stop s why) = IsAllowed why
-Keeps w P (Read s el more) = (v : Value) → HasKind (array_kind w el.array) v → Keeps w P (more v)
-Keeps w P (Write s el v more) = HasKind (array_kind w el.array) v × Keeps w P more
-Keeps w P (access.Add s el v more) = HasKind (array_kind w el.array) v × Keeps w P more
+Keeps w P (Read s el more) = InArray w el × ((v : Value) → HasKind (array_kind w el.array) v → Keeps w P (more v))
+Keeps w P (Write s el v more) = InArray w el × HasKind (array_kind w el.array) v × Keeps w P more
+Keeps w P (access.Add s el v more) = InArray w el × HasKind (array_kind w el.array) v × Keeps w P more
 
 pub keeps-then_do : {X Y : Type 0} (w : Context) (P : X → Type 0) (Q : Y → Type 0) (t : Tree X) (next : X → Tree Y)
     → Keeps w P t → ((x : X) → P x → Keeps w Q (next x)) → Keeps w Q (then_do t next)
 keeps-then_do w P Q (Ret x) next h after = after x h
 keeps-then_do w P Q (Stop s why) next h after = h
-keeps-then_do w P Q (Read s el more) next h after = λ v of. keeps-then_do w P Q (more v) next (h v of) after
-keeps-then_do w P Q (Write s el v more) next h after = (h.0, keeps-then_do w P Q more next h.1 after)
-keeps-then_do w P Q (access.Add s el v more) next h after = (h.0, keeps-then_do w P Q more next h.1 after)
+keeps-then_do w P Q (Read s el more) next h after = (h.0, λ v of. keeps-then_do w P Q (more v) next (h.1 v of) after)
+keeps-then_do w P Q (Write s el v more) next h after = (h.0, h.1, keeps-then_do w P Q more next h.2 after)
+keeps-then_do w P Q (access.Add s el v more) next h after = (h.0, h.1, keeps-then_do w P Q more next h.2 after)
 
 keeps_one : {X : Type 0} (w : Context) (P : X → Type 0) (t : Bool) (a b : Tree X) → Keeps w P a → Keeps w P b → Keeps w P (if t then a else b)
 keeps_one w P true a b p q = p
@@ -130,9 +136,9 @@ keeps_one w P false a b p q = q
 keeps_weaker : {X : Type 0} (w : Context) (P Q : X → Type 0) (t : Tree X) → ((x : X) → P x → Q x) → Keeps w P t → Keeps w Q t
 keeps_weaker w P Q (Ret x) weaker h = weaker x h
 keeps_weaker w P Q (Stop s why) weaker h = h
-keeps_weaker w P Q (Read s el more) weaker h = λ v of. keeps_weaker w P Q (more v) weaker (h v of)
-keeps_weaker w P Q (Write s el v more) weaker h = (h.0, keeps_weaker w P Q more weaker h.1)
-keeps_weaker w P Q (access.Add s el v more) weaker h = (h.0, keeps_weaker w P Q more weaker h.1)
+keeps_weaker w P Q (Read s el more) weaker h = (h.0, λ v of. keeps_weaker w P Q (more v) weaker (h.1 v of))
+keeps_weaker w P Q (Write s el v more) weaker h = (h.0, h.1, keeps_weaker w P Q more weaker h.2)
+keeps_weaker w P Q (access.Add s el v more) weaker h = (h.0, h.1, keeps_weaker w P Q more weaker h.2)
 
 keeps_answered : (w : Context) (k : Kind) (s : Site) (a : Answer) → AnswerOf k a → Keeps w (HasKind k) (answered s a)
 keeps_answered w k s (Ok v) h = h
@@ -155,9 +161,38 @@ keeps_known : (w : Context) (x : ℕ) (s : Site) (f : Frame) (o : Option Value) 
 keeps_known w x s f (Some v) same h = h x v same
 keeps_known w x s f None same h = tt
 
-keeps_tested : (w : Context) (s : Site) (o : Option (List ℕ)) → Keeps w Any (tested s o)
-keeps_tested w s (Some is) = tt
-keeps_tested w s None = tt
+-- indices that are those of an element
+abbrev pub Within : Context → ℕ → List ℕ → Type 0
+Within w a is = row_order (sizes_of w a) is < product (sizes_of w a)
+
+index_below : (size : ℕ) (n : ℤ) (i : ℕ) → index_in size n ≡ Some i → i < size
+index_below size (pos m) i h = go (nat_lt m size) refl h
+  where
+    go : (t : Bool) → nat_lt m size ≡ t → (if t then Some m else None) ≡ Some i → i < size
+    go true less same = let is : m ≡ i = ap (λ o. unwrap_or o 0) same in let below : m < size = grind (arith, nat_tests) in omega (arith, is, below)
+    go false less same = absurd cc
+index_below size (negsuc m) i h = absurd cc
+
+indices_within : (sizes : List ℕ) (vs : List Value) (is : List ℕ) → indices_in sizes vs ≡ Some is → row_order sizes is < product sizes
+indices_within [] vs is h = omega arith
+indices_within (size ∷ sizes) [] is h = absurd cc
+indices_within (size ∷ sizes) (v ∷ vs) is h =
+    go (λ rest e. indices_within sizes vs rest e) (index_in size (number_of v)) (indices_in sizes vs) refl refl h
+  where
+    go : ((rest : List ℕ) → indices_in sizes vs ≡ Some rest → row_order sizes rest < product sizes)
+        → (o : Option ℕ) (r : Option (List ℕ)) → index_in size (number_of v) ≡ o → indices_in sizes vs ≡ r
+        → option_and_then (λ i. option_map (λ rest. i ∷ rest) r) o ≡ Some is → row_order (size ∷ sizes) is < product (size ∷ sizes)
+    go inner (Some i) (Some rest) e f same =
+        let all : i ∷ rest ≡ is = ap (λ o. unwrap_or o []) same in
+        let first : suc i ≤ size = index_below size (number_of v) i e in
+        let more : suc i * product sizes ≤ size * product sizes = mul-le-mul_right (product sizes) first in
+        subst (λ l. row_order (size ∷ sizes) l < product (size ∷ sizes)) all (omega (arith, more, inner rest f))
+    go inner (Some i) None e f same = absurd cc
+    go inner None r e f same = absurd cc
+
+keeps_tested : (w : Context) (a : ℕ) (s : Site) (vs : List Value) (o : Option (List ℕ)) → indices_in (sizes_of w a) vs ≡ o → Keeps w (Within w a) (tested s o)
+keeps_tested w a s vs (Some is) same = indices_within (sizes_of w a) vs is same
+keeps_tested w a s vs None same = tt
 
 keeps_values : (w : Context) (es : List Expr) → Each (λ x. HasItsKind w (sense w x)) es → (s : Spot) (n : ℕ) (f : Frame) → FrameOf w f
     → Keeps w Any (values_of (map (sense w) es) s n f)
@@ -167,9 +202,9 @@ keeps_values w (x ∷ es) h s n f ok =
     keeps-then_do w Any Any (values_of (map (sense w) es) s (n + (sense w x).elements) f) _ (keeps_values w es h.1 s (n + (sense w x).elements) f ok) (λ vs _. tt))
 
 pub keeps_target : (w : Context) (a : ℕ) (es : List Expr) → Each (λ x. HasItsKind w (sense w x)) es → (s : Spot) (n : ℕ) (f : Frame) → FrameOf w f
-    → Keeps w Any (target_of w a (map (sense w) es) s n f)
+    → Keeps w (Within w a) (target_of w a (map (sense w) es) s n f)
 keeps_target w a es h s n f ok =
-    keeps-then_do w Any Any (values_of (map (sense w) es) s n f) _ (keeps_values w es h s n f ok) (λ vs _. keeps_tested w _ (indices_in (sizes_of w a) vs))
+    keeps-then_do w Any (Within w a) (values_of (map (sense w) es) s n f) _ (keeps_values w es h s n f ok) (λ vs _. keeps_tested w a _ vs (indices_in (sizes_of w a) vs) refl)
 
 keeps_test : (w : Context) (x : Sense) (Q : Value → Type 0) (next : Value → Tree Value) (s : Spot) (n : ℕ) (f : Frame) → FrameOf w f
     → HasItsKind w x → ((v : Value) → HasKind x.kind v → Keeps w Q (next v)) → Keeps w Q (then_do (x.does s n f) next)
@@ -214,7 +249,7 @@ has_its_kind w = expr_ind (λ x. HasItsKind w (sense w x)) (record {
   iter = λ level. subst (HasItsKind w) (sym (sense-Iter w level)) (λ s n f ok. refl);
   local = λ x. subst (HasItsKind w) (sym (sense-Local w x)) (λ s n f ok. keeps_known w x (site_at s n f []) f (local_of f x) refl ok);
   elem = λ a subs h. subst (HasItsKind w) (sym (sense-Elem w a subs)) (λ s n f ok.
-      keeps-then_do w Any (HasKind (array_kind w a)) (target_of w a (map (sense w) subs) s n f) _ (keeps_target w a subs h s n f ok) (λ is _ v of. of));
+      keeps-then_do w (Within w a) (HasKind (array_kind w a)) (target_of w a (map (sense w) subs) s n f) _ (keeps_target w a subs h s n f ok) (λ is within. (within, λ v of. of)));
   unary = λ op a p. subst (HasItsKind w) (sym (sense-Unary w op a)) (unary_case w op (sense w a) p);
   binary = λ op a b p q. subst (HasItsKind w) (sym (sense-Binary w op a b)) (binary_case w op (sense w a) (sense w b) p q);
   both = λ a b p q. subst (HasItsKind w) (sym (sense-And w a b)) (and_case w (sense w a) (sense w b) p q);
@@ -283,23 +318,26 @@ keeps_looping w test by start limit body sp h f ok =
 keeps_assignment : (w : Context) (a : ℕ) (subs : List Expr) (value : Expr) (sp : Spot) → DoesKeep w (assignment w a (map (sense w) subs) (sense w value) sp)
 keeps_assignment w a subs value sp f ok =
     let n = suc (elements_in (map (sense w) subs)) in
-    keeps-then_do w Any (FrameOf w) (target_of w a (map (sense w) subs) sp 0 f) _ (keeps_target w a subs (each_all (λ x. HasItsKind w (sense w x)) (has_its_kind w) subs) sp 0 f ok) (λ is _.
-    keeps-then_do w (HasKind (sense w value).kind) (FrameOf w) ((sense w value).does sp n f) _ (has_its_kind w value sp n f ok) (λ v _. (kind-in_kind (array_kind w a) _, ok)))
+    keeps-then_do w (Within w a) (FrameOf w) (target_of w a (map (sense w) subs) sp 0 f) _ (keeps_target w a subs (each_all (λ x. HasItsKind w (sense w x)) (has_its_kind w) subs) sp 0 f ok) (λ is within.
+    keeps-then_do w (HasKind (sense w value).kind) (FrameOf w) ((sense w value).does sp n f) _ (has_its_kind w value sp n f ok) (λ v _. (within, kind-in_kind (array_kind w a) _, ok)))
 
-keeps_addition : (w : Context) → AllowsAll w → (a : ℕ) (atomic : Bool) (n : ℕ) (value : Expr) (sp : Spot) (is : List ℕ) → DoesKeep w (addition w a atomic n (sense w value) sp is)
-keeps_addition w all a false n value sp is f ok = λ old of_old.
+keeps_addition : (w : Context) → AllowsAll w → (a : ℕ) (atomic : Bool) (n : ℕ) (value : Expr) (sp : Spot) (is : List ℕ) → Within w a is → DoesKeep w (addition w a atomic n (sense w value) sp is)
+keeps_addition w all a false n value sp is within f ok = (
+  within,
+  λ old of_old.
+      keeps-then_do w (HasKind (sense w value).kind) (FrameOf w) ((sense w value).does sp (suc n) f) _ (has_its_kind w value sp (suc n) f ok) (λ v of_v.
+      keeps-then_do w (HasKind (binary_kind Add (kind_of old) (kind_of v))) (FrameOf w) (answered (site_at sp n f is) (binary_of Add old v)) _
+      (keeps_answered w (binary_kind Add (kind_of old) (kind_of v)) (site_at sp n f is) (binary_of Add old v) (kind-binary Add old v))
+      (λ sum _. (within, kind-in_kind (array_kind w a) _, ok))),
+)
+keeps_addition w all a true n value sp is within f ok =
     keeps-then_do w (HasKind (sense w value).kind) (FrameOf w) ((sense w value).does sp (suc n) f) _ (has_its_kind w value sp (suc n) f ok) (λ v of_v.
-    keeps-then_do w (HasKind (binary_kind Add (kind_of old) (kind_of v))) (FrameOf w) (answered (site_at sp n f is) (binary_of Add old v)) _
-    (keeps_answered w (binary_kind Add (kind_of old) (kind_of v)) (site_at sp n f is) (binary_of Add old v) (kind-binary Add old v))
-    (λ sum _. (kind-in_kind (array_kind w a) _, ok)))
-keeps_addition w all a true n value sp is f ok =
-    keeps-then_do w (HasKind (sense w value).kind) (FrameOf w) ((sense w value).does sp (suc n) f) _ (has_its_kind w value sp (suc n) f ok) (λ v of_v.
-    allowed_one w (FrameOf w) (w.may_add (array_kind w a)) _ _ (all.1 (array_kind w a)) (kind-in_kind (array_kind w a) _, ok))
+    allowed_one w (FrameOf w) (w.may_add (array_kind w a)) _ _ (all.1 (array_kind w a)) (within, kind-in_kind (array_kind w a) _, ok))
 
 keeps_adding : (w : Context) → AllowsAll w → (a : ℕ) (atomic : Bool) (subs : List Expr) (value : Expr) (sp : Spot) → DoesKeep w (adding w a atomic (map (sense w) subs) (sense w value) sp)
 keeps_adding w all a atomic subs value sp f ok =
-    keeps-then_do w Any (FrameOf w) (target_of w a (map (sense w) subs) sp 0 f) _ (keeps_target w a subs (each_all (λ x. HasItsKind w (sense w x)) (has_its_kind w) subs) sp 0 f ok)
-    (λ is _. keeps_addition w all a atomic (elements_in (map (sense w) subs)) value sp is f ok)
+    keeps-then_do w (Within w a) (FrameOf w) (target_of w a (map (sense w) subs) sp 0 f) _ (keeps_target w a subs (each_all (λ x. HasItsKind w (sense w x)) (has_its_kind w) subs) sp 0 f ok)
+    (λ is within. keeps_addition w all a atomic (elements_in (map (sense w) subs)) value sp is within f ok)
 
 -- what a local may be set to
 abbrev Fitting : Kind → Option Value → Type 0

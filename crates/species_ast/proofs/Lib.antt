@@ -1,9 +1,11 @@
 pub mod AccessLaws
+pub mod ArrayLaws
 pub mod Cutting
 pub mod Examples
 pub mod Folds
 pub mod Grammar
 pub mod Induction
+pub mod IterationLaws
 pub mod IteratorLaws
 pub mod KindLaws
 pub mod RunLaws
