@@ -20,3 +20,6 @@ mod words;
 pub use species_ast::{LexRefusal, TokenKind};
 pub use token::Token;
 pub use tokens::Tokens;
+
+#[cfg(test)]
+mod tests;
