@@ -1,6 +1,7 @@
 pub mod AccessLaws
 pub mod Cutting
 mod Examples
+pub mod FirstRefusal
 pub mod Folds
 pub mod Grammar
 pub mod Induction
