@@ -1,7 +1,7 @@
 -- More depth changes no answer, and enough of it is enough.
 use Rattle.std.proofs.Common.{◌≡◌, ◌∙◌, ap, sym, refl, subst, ℕ, zero, suc, ◌+◌, ◌<◌, ◌≤◌, List, [], ◌∷◌, length, Option, Some, None, Bool, true, false, arith, length-append, inl, inr}
 use Rattle.std.specs.Prelude.{if◌then◌else◌}
-use Rattle.species_grammar.specs.Reader.{Answer, Reader, ◌>>=◌, Word, is_of, starts, said, word, nothing, both, mapped, choose, skip, ends, maybe, maybe_word, cons_of, many, until, joined, level}
+use Rattle.species_grammar.specs.Reader.{Answer, Reader, ◌>>=◌, Word, is_of, starts, said, one, word, nothing, both, mapped, choose, skip, ends, maybe, maybe_word, cons_of, many, until, joined, level}
 use Rattle.species_grammar.specs.Lawful.{Spelled, Before, Lawful, Less, Under, Enough, Takes}
 use Rattle.species_grammar.proofs.Laws.{Reads, bind_read, same_rest}
 
@@ -63,11 +63,11 @@ grow at h n (suc j) ts =
 
 -- ---- enough depth
 
-data Shallow {Tok A B : Type 0} (o : Answer Tok A) (f : A → Reader Tok B) : Type 0 where
+pub data Shallow {Tok A B : Type 0} (o : Answer Tok A) (f : A → Reader Tok B) : Type 0 where
   first : o ≡ Answer.shallow → Shallow o f
   second : (x : A) (us : List Tok) → o ≡ Answer.read x us → f x us ≡ Answer.shallow → Shallow o f
 
-bind_shallow : {Tok A B : Type 0} (o : Answer Tok A) (f : A → Reader Tok B) → (o >>= f) ≡ Answer.shallow → Shallow o f
+pub bind_shallow : {Tok A B : Type 0} (o : Answer Tok A) (f : A → Reader Tok B) → (o >>= f) ≡ Answer.shallow → Shallow o f
 bind_shallow (Answer.read x us) f h = Shallow.second x us refl h
 bind_shallow (Answer.stuck us) f h = cc
 bind_shallow Answer.shallow f h = Shallow.first refl
@@ -110,17 +110,17 @@ choose_enough c r q n h k ts lt d = go (starts c ts) d
 pub nothing_enough : {Tok A : Type 0} (x : A) (n : ℕ) → Enough {Tok = Tok} (nothing x) n
 nothing_enough x n ts lt d = cc
 
-pub word_enough : {Tok A : Type 0} (w : Word Tok A) (n : ℕ) → Enough (word w) n
-word_enough w n [] lt d = cc
-word_enough {Tok} {A} w n (u ∷ ts) lt d = go (w.says u) d
+pub one_enough : {Tok A : Type 0} (says : Tok → Option A) (n : ℕ) → Enough (one says) n
+one_enough says n [] lt d = cc
+one_enough {Tok} {A} says n (u ∷ ts) lt d = go (says u) d
   where
     go : (o : Option A) → said o ts (u ∷ ts) ≡ Answer.shallow → ⊥
     go None e = cc
     go (Some x) e = cc
 
-pub word_takes : {Tok A : Type 0} (w : Word Tok A) → Takes (word w) 1
-word_takes w [] x rest d = cc
-word_takes {Tok} {A} w (u ∷ ts) x rest d = go (w.says u) d
+pub one_takes : {Tok A : Type 0} (says : Tok → Option A) → Takes (one says) 1
+one_takes says [] x rest d = cc
+one_takes {Tok} {A} says (u ∷ ts) x rest d = go (says u) d
   where
     go : (o : Option A) → said o ts (u ∷ ts) ≡ Answer.read x rest → 1 + length rest ≤ length (u ∷ ts)
     go None e = cc
@@ -141,6 +141,19 @@ both_takes {Tok} {A} {B} r q k j h t ts p rest d = go (bind_read (r ts) (λ x us
 pub fewer_takes : {Tok A : Type 0} (r : Reader Tok A) (k : ℕ) → Takes r k → Takes r 0
 fewer_takes r k h ts x rest d = omega (arith, h ts x rest d)
 
+pub mapped_takes : {Tok A B : Type 0} (f : A → B) (r : Reader Tok A) (k : ℕ) → Takes r k → Takes (mapped f r) k
+mapped_takes {Tok} {A} {B} f r k h ts y rest d = go (bind_read (r ts) (λ x us. Answer.read (f x) us) y rest d)
+  where
+    go : Reads (r ts) (λ x us. Answer.read (f x) us) y rest → k + length rest ≤ length ts
+    go (Reads.reads x us o e) = let i : us ≡ rest = same_rest e in omega (arith, h ts x us o, ap length i)
+
+pub choose_takes : {Tok A : Type 0} (c : Tok → Bool) (r q : Reader Tok A) (k : ℕ) → Takes r k → Takes q k → Takes (choose c r q) k
+choose_takes {Tok} {A} c r q k h j ts x rest d = go (starts c ts) d
+  where
+    go : (b : Bool) → (if b then r ts else q ts) ≡ Answer.read x rest → k + length rest ≤ length ts
+    go true e = h ts x rest e
+    go false e = j ts x rest e
+
 -- what is spelled by at least k tokens is read from k
 pub takes_of : {Tok A : Type 0} (r : Reader Tok A) (s f : Before Tok A) (v : Spelled Tok A) (k : ℕ) → Lawful r s f v → ((x : A) (front : List Tok) → v x front → k ≤ length front) → Takes r k
 takes_of r s f v k l h ts x rest d =
@@ -150,17 +163,26 @@ takes_of r s f v k l h ts x rest d =
 pub takes_none : {Tok A : Type 0} (r : Reader Tok A) (s f : Before Tok A) (v : Spelled Tok A) → Lawful r s f v → Takes r 0
 takes_none r s f v l = takes_of r s f v 0 l (λ x front h. omega arith)
 
+pub nothing_takes : {Tok A : Type 0} (y : A) → Takes {Tok = Tok} (nothing y) 0
+nothing_takes y ts x rest d = let i = same_rest d in omega (arith, ap length i)
+
+pub maybe_word_takes : {Tok A : Type 0} (w : Word Tok A) → Takes (maybe_word w) 0
+maybe_word_takes w = choose_takes (is_of w) _ _ 0 (mapped_takes Some (word w) 0 (fewer_takes (word w) 1 (one_takes w.says))) (nothing_takes None)
+
+pub skip_takes : {Tok A B : Type 0} (w : Word Tok A) (r : Reader Tok B) (k : ℕ) → Takes r k → Takes (skip w r) (1 + k)
+skip_takes w r k h = mapped_takes (λ p. p.1) _ (1 + k) (both_takes (word w) r 1 k (one_takes w.says) h)
+
 pub skip_enough : {Tok A B : Type 0} (w : Word Tok A) (r : Reader Tok B) (n : ℕ) → Enough r n → Enough (skip w r) (suc n)
-skip_enough w r n h = let l : suc n ≤ 1 + n = omega arith in mapped_enough (λ p. p.1) _ (suc n) (both_enough (word w) r 1 (suc n) n (word_takes w) (word_enough w (suc n)) h l)
+skip_enough w r n h = let l : suc n ≤ 1 + n = omega arith in mapped_enough (λ p. p.1) _ (suc n) (both_enough (word w) r 1 (suc n) n (one_takes w.says) (one_enough w.says (suc n)) h l)
 
 pub ends_enough : {Tok A B : Type 0} (r : Reader Tok B) (w : Word Tok A) (n : ℕ) → Takes r 0 → Enough r n → Enough (ends r w) n
-ends_enough r w n k h = let l : n ≤ 0 + n = omega arith in mapped_enough (λ p. p.0) _ n (both_enough r (word w) 0 n n k h (word_enough w n) l)
+ends_enough r w n k h = let l : n ≤ 0 + n = omega arith in mapped_enough (λ p. p.0) _ n (both_enough r (word w) 0 n n k h (one_enough w.says n) l)
 
 pub maybe_enough : {Tok A B : Type 0} (w : Word Tok A) (r : Reader Tok B) (n : ℕ) → Enough r n → Enough (maybe w r) (suc n)
 maybe_enough w r n h = choose_enough (is_of w) _ _ (suc n) (mapped_enough Some _ (suc n) (skip_enough w r n h)) (nothing_enough None (suc n))
 
 pub maybe_word_enough : {Tok A : Type 0} (w : Word Tok A) (n : ℕ) → Enough (maybe_word w) n
-maybe_word_enough w n = choose_enough (is_of w) _ _ n (mapped_enough Some _ n (word_enough w n)) (nothing_enough None n)
+maybe_word_enough w n = choose_enough (is_of w) _ _ n (mapped_enough Some _ n (one_enough w.says n)) (nothing_enough None n)
 
 -- a list of things of at least one token each
 pub many_enough : {Tok A : Type 0} (m : ℕ) (c : Tok → Bool) (r : Reader Tok A) → Takes r 1 → Enough r m → Enough (many m c r) m

@@ -1,8 +1,8 @@
 -- The laws of the readers that the combinators make.
 use Rattle.std.proofs.Common.{◌≡◌, ◌∙◌, ap, sym, refl, subst, ℕ, zero, suc, ◌<◌, List, [], ◌∷◌, ◌++◌, length, Option, Some, None, Bool, true, false, arith, append_assoc, inl, inr}
 use Rattle.std.specs.Prelude.{if◌then◌else◌, is_some}
-use Rattle.species_grammar.specs.Reader.{Answer, Reader, ◌>>=◌, Word, is_of, starts, said, word, nothing, both, mapped, choose, skip, ends, maybe, maybe_word, cons_of, many, until}
-use Rattle.species_grammar.specs.Lawful.{Spelled, Before, SameFirst, IsWord, Took, Failed, Lawful, plain, nothing_spelled, word_spelled, both_before, both_spelled, mapped_before, mapped_spelled, choose_before, choose_spelled, skip_before, skip_spelled, ends_before, ends_spelled, maybe_before, maybe_spelled, maybe_word_before, maybe_word_spelled, Short, many_before, many_spelled, until_before, until_spelled}
+use Rattle.species_grammar.specs.Reader.{Answer, Reader, ◌>>=◌, Word, is_of, starts, said, one, word, nothing, both, mapped, choose, skip, ends, maybe, maybe_word, cons_of, too_shallow, many, until}
+use Rattle.species_grammar.specs.Lawful.{Spelled, Before, SameFirst, IsWord, Took, Failed, Lawful, plain, nothing_spelled, one_spelled, word_spelled, both_before, both_spelled, mapped_before, mapped_spelled, choose_before, choose_spelled, skip_before, skip_spelled, ends_before, ends_spelled, maybe_before, maybe_spelled, maybe_word_before, maybe_word_spelled, Short, many_before, many_spelled, until_before, until_spelled}
 
 -- ---- answers
 
@@ -150,6 +150,19 @@ pub recast_plain : {Tok A : Type 0} (r : Reader Tok A) (s f f' : Before Tok A) (
     → ((x : A) (front rest : List Tok) → f' x front rest → f x front rest) → ((x : A) (front : List Tok) → v x front → v' x front) → Lawful r (plain v') f' v'
 recast_plain r s f f' v v' l ff vv = recast r s f (plain v') f' v v' l (λ x front rest h. vv x front (l.weak x front rest h)) ff vv (λ x front rest h. h)
 
+-- where no depth is left nothing is read
+pub shallow_lawful : {Tok A : Type 0} (s f : Before Tok A) (v : Spelled Tok A) (x : A) (text : List Tok) → v x text → ((y : A) (front rest : List Tok) → s y front rest → v y front)
+    → ((y : A) (front rest : List Tok) → f y front rest → ⊥) → Lawful too_shallow s f v
+shallow_lawful s f v x text d weak bad = record {
+  took = λ ts y rest h. cc;
+  failed = λ ts back h. cc;
+  full = λ y front rest h. absurd (bad y front rest h);
+  weak = weak;
+  some = x;
+  some_text = text;
+  some_spelled = d;
+}
+
 -- ---- mapped
 
 module _ {Tok A B : Type 0} (g : A → B) (r : Reader Tok A) (s f : Before Tok A) (v : Spelled Tok A) (l : Lawful r s f v) where
@@ -191,49 +204,55 @@ nothing_lawful x = record {
   some_spelled = (refl, refl);
 }
 
--- ---- word
+-- ---- one token
 
-module _ {Tok A : Type 0} (w : Word Tok A) (k : IsWord w) where
-  word_took : (u : Tok) (ts : List Tok) (x : A) (rest : List Tok) (o : Option A) → w.says u ≡ o → said o ts (u ∷ ts) ≡ Answer.read x rest → Took (word w) (plain (word_spelled w)) (u ∷ ts) x rest
-  word_took u ts x rest None n h = cc
-  word_took u ts x rest (Some y) n h =
-      moved h (record { front = w.token y ∷ []; is = ap (λ z. z ∷ ts) (k.is u y n); spelled = refl; steady = λ b e. ap (λ o. said o b (w.token y ∷ b)) (k.own y) })
+module _ {Tok A : Type 0} (says : Tok → Option A) (t : Tok) (x : A) (own : says t ≡ Some x) where
+  one_took : (u : Tok) (ts : List Tok) (y : A) (rest : List Tok) (o : Option A) → says u ≡ o → said o ts (u ∷ ts) ≡ Answer.read y rest → Took (one says) (plain (one_spelled says)) (u ∷ ts) y rest
+  one_took u ts y rest None n h = cc
+  one_took u ts y rest (Some z) n h = moved h (record { front = u ∷ []; is = refl; spelled = (u, refl, n); steady = λ b e. ap (λ o. said o b (u ∷ b)) n })
 
-  word_stuck : (u : Tok) (ts b : List Tok) → w.says u ≡ None → SameFirst (u ∷ ts) b → word w b ≡ Answer.stuck b
-  word_stuck u ts [] n e = absurd e
-  word_stuck u ts (t ∷ b) n e = ap (λ o. said o b (t ∷ b)) (ap w.says (sym e) ∙ n)
+  one_stuck : (u : Tok) (ts b : List Tok) → says u ≡ None → SameFirst (u ∷ ts) b → one says b ≡ Answer.stuck b
+  one_stuck u ts [] n e = absurd e
+  one_stuck u ts (w ∷ b) n e = ap (λ o. said o b (w ∷ b)) (ap says (sym e) ∙ n)
 
-  word_none : (b : List Tok) → SameFirst [] b → word w b ≡ Answer.stuck b
-  word_none [] e = refl
-  word_none (t ∷ b) e = absurd e
+  one_none : (b : List Tok) → SameFirst [] b → one says b ≡ Answer.stuck b
+  one_none [] e = refl
+  one_none (w ∷ b) e = absurd e
 
-  word_here : (ts back : List Tok) → Path (Answer Tok A) (Answer.stuck ts) (Answer.stuck back) → ((b : List Tok) → SameFirst ts b → word w b ≡ Answer.stuck b) → Failed (word w) (word_spelled w) ts back
-  word_here ts back h st =
+  one_here : (ts back : List Tok) → Path (Answer Tok A) (Answer.stuck ts) (Answer.stuck back) → ((b : List Tok) → SameFirst ts b → one says b ≡ Answer.stuck b) → Failed (one says) (one_spelled says) ts back
+  one_here ts back h st =
       let e : ts ≡ back = cc in
-      subst (Failed (word w) (word_spelled w) ts) e (record { front = []; is = refl; steady = st; value = k.some; more = w.token k.some ∷ []; viable = refl })
+      subst (Failed (one says) (one_spelled says) ts) e (record { front = []; is = refl; steady = st; value = x; more = t ∷ []; viable = (t, refl, own) })
 
-  word_failed : (u : Tok) (ts back : List Tok) (o : Option A) → w.says u ≡ o → said o ts (u ∷ ts) ≡ Answer.stuck back → Failed (word w) (word_spelled w) (u ∷ ts) back
-  word_failed u ts back None is h = word_here (u ∷ ts) back h (λ b e. word_stuck u ts b is e)
-  word_failed u ts back (Some y) is h = cc
+  one_failed : (u : Tok) (ts back : List Tok) (o : Option A) → says u ≡ o → said o ts (u ∷ ts) ≡ Answer.stuck back → Failed (one says) (one_spelled says) (u ∷ ts) back
+  one_failed u ts back None is h = one_here (u ∷ ts) back h (λ b e. one_stuck u ts b is e)
+  one_failed u ts back (Some y) is h = cc
 
-  word_took_at : (ts : List Tok) (x : A) (rest : List Tok) → word w ts ≡ Answer.read x rest → Took (word w) (plain (word_spelled w)) ts x rest
-  word_took_at [] x rest h = cc
-  word_took_at (u ∷ ts) x rest h = word_took u ts x rest (w.says u) refl h
+  one_took_at : (ts : List Tok) (y : A) (rest : List Tok) → one says ts ≡ Answer.read y rest → Took (one says) (plain (one_spelled says)) ts y rest
+  one_took_at [] y rest h = cc
+  one_took_at (u ∷ ts) y rest h = one_took u ts y rest (says u) refl h
 
-  word_failed_at : (ts back : List Tok) → word w ts ≡ Answer.stuck back → Failed (word w) (word_spelled w) ts back
-  word_failed_at [] back h = word_here [] back h word_none
-  word_failed_at (u ∷ ts) back h = word_failed u ts back (w.says u) refl h
+  one_failed_at : (ts back : List Tok) → one says ts ≡ Answer.stuck back → Failed (one says) (one_spelled says) ts back
+  one_failed_at [] back h = one_here [] back h one_none
+  one_failed_at (u ∷ ts) back h = one_failed u ts back (says u) refl h
 
-  pub word_lawful : Lawful (word w) (plain (word_spelled w)) (plain (word_spelled w)) (word_spelled w)
-  word_lawful = record {
-    took = word_took_at;
-    failed = word_failed_at;
-    full = λ x front rest h. ap (λ z. word w (z ++ rest)) h ∙ ap (λ o. said o rest (w.token x ∷ rest)) (k.own x);
-    weak = λ x front rest h. h;
-    some = k.some;
-    some_text = w.token k.some ∷ [];
-    some_spelled = refl;
+  -- t is any token that it reads
+  pub one_lawful : Lawful (one says) (plain (one_spelled says)) (plain (one_spelled says)) (one_spelled says)
+  one_lawful = record {
+    took = one_took_at;
+    failed = one_failed_at;
+    full = λ y front rest h. ap (λ z. one says (z ++ rest)) h.1 ∙ ap (λ o. said o rest (h.0 ∷ rest)) h.2;
+    weak = λ y front rest h. h;
+    some = x;
+    some_text = t ∷ [];
+    some_spelled = (t, refl, own);
   }
+
+pub word_lawful : {Tok A : Type 0} (w : Word Tok A) (k : IsWord w) → Lawful (word w) (plain (word_spelled w)) (plain (word_spelled w)) (word_spelled w)
+word_lawful w k =
+    recast_plain (word w) _ _ (plain (word_spelled w)) (one_spelled w.says) (word_spelled w) (one_lawful w.says (w.token k.some) k.some (k.own k.some))
+    (λ x front rest h. (w.token x, h, k.own x))
+    (λ x front h. h.1 ∙ ap (λ z. z ∷ []) (k.is h.0 x h.2))
 
 -- ---- choose
 

@@ -4,12 +4,12 @@ use Rattle.species_grammar.specs.Reader.{Reader, starts, both, many, joined, lev
 use Rattle.species_grammar.specs.Lawful.{Spelled, Before, Lawful, plain, both_before, both_spelled, mapped_before, mapped_spelled, Short, many_before, many_spelled, LeftSpelled}
 use Rattle.species_grammar.proofs.Laws.{recast_plain, both_lawful, mapped_lawful, many_lawful}
 
--- `stop` is that the next token goes on with no operand.
-module _ {Tok A O : Type 0} (g : A → O → A → A) (n : ℕ) (c : Tok → Bool) (o : Reader Tok O) (r : Reader Tok A) (v : Spelled Tok A) (ov : Spelled Tok O) (stop : List Tok → Bool)
-    (lo : Lawful o (plain ov) (plain ov) ov) (lr : Lawful r (plain v) (λ x a rest. v x a × (length a < n) × (stop rest ≡ true)) v)
-    (begins : (x : O) (a rest : List Tok) → ov x a → (starts c (a ++ rest) ≡ true) × (stop (a ++ rest) ≡ true) × (1 ≤ length a)) where
+-- `goes` is that the next token goes on with the operand.
+module _ {Tok A O : Type 0} (g : A → O → A → A) (n : ℕ) (c : Tok → Bool) (o : Reader Tok O) (r : Reader Tok A) (v : Spelled Tok A) (ov : Spelled Tok O) (goes : Tok → Bool)
+    (lo : Lawful o (plain ov) (plain ov) ov) (lr : Lawful r (plain v) (λ x a rest. v x a × (length a < n) × (starts goes rest ≡ false)) v)
+    (begins : (x : O) (a rest : List Tok) → ov x a → (starts c (a ++ rest) ≡ true) × (starts goes (a ++ rest) ≡ false) × (1 ≤ length a)) where
   abbrev Operand : Before Tok A
-  Operand x a rest = v x a × (length a < n) × (stop rest ≡ true)
+  Operand x a rest = v x a × (length a < n) × (starts goes rest ≡ false)
 
   abbrev Pair : Before Tok (O × A)
   Pair = both_before (plain ov) Operand
@@ -23,7 +23,7 @@ module _ {Tok A O : Type 0} (g : A → O → A → A) (n : ℕ) (c : Tok → Boo
   level_viable : (x : A) (front : List Tok) → mapped_spelled (λ p. joined g p.0 p.1) (both_spelled v (many_spelled (both_spelled ov v))) x front → LeftSpelled g v ov x front
   level_viable x front (p, e, (a, b, i, d, m)) = subst (λ z. LeftSpelled g v ov z front) e (subst (LeftSpelled g v ov (joined g p.0 p.1)) (sym i) (join_left p.0 a (LeftSpelled.one p.0 a d) p.1 b m))
 
-  unroll : (x : A) (ts : List Tok) → LeftSpelled g v ov x ts → (ps : List (O × A)) (us rest : List Tok) → many_before c Pair ps us rest → length ps ≤ length us → length (ts ++ us) < n → stop (us ++ rest) ≡ true
+  unroll : (x : A) (ts : List Tok) → LeftSpelled g v ov x ts → (ps : List (O × A)) (us rest : List Tok) → many_before c Pair ps us rest → length ps ≤ length us → length (ts ++ us) < n → starts goes (us ++ rest) ≡ false
       → (p : A × List (O × A)) × (joined g p.0 p.1 ≡ joined g x ps) × both_before Operand (Short n (many_before c Pair)) p (ts ++ us) rest
   unroll x ts (LeftSpelled.one y zs d) ps us rest h le lt st =
       let all = length-append zs us in
@@ -41,11 +41,11 @@ module _ {Tok A O : Type 0} (g : A → O → A → A) (n : ℕ) (c : Tok → Boo
       let lw : length ws < n = omega (arith, lt, l0, l1, l2) in
       let le' : length ((q, z) ∷ ps) ≤ length ((os ++ ws) ++ us) = omega (arith, le, l2, l3, b.2) in
       let lt' : length (zs ++ ((os ++ ws) ++ us)) < n = omega (arith, lt, ap length group) in
-      let k = unroll y zs d ((q, z) ∷ ps) ((os ++ ws) ++ us) rest (os ++ ws, us, refl, (os, ws, refl, od, (zd, lw, st)), h) le' lt' (ap stop at ∙ b.1) in
+      let k = unroll y zs d ((q, z) ∷ ps) ((os ++ ws) ++ us) rest (os ++ ws, us, refl, (os, ws, refl, od, (zd, lw, st)), h) le' lt' (ap (starts goes) at ∙ b.1) in
       (k.0, k.1, subst (λ w. both_before Operand (Short n (many_before c Pair)) k.0 w rest) (sym group) k.2)
 
   abbrev LevelBefore : Before Tok A
-  LevelBefore x front rest = LeftSpelled g v ov x front × (length front < n) × (stop rest ≡ true) × (starts c rest ≡ false)
+  LevelBefore x front rest = LeftSpelled g v ov x front × (length front < n) × (starts goes rest ≡ false) × (starts c rest ≡ false)
 
   level_full : (x : A) (front rest : List Tok) → LevelBefore x front rest → mapped_before (λ p. joined g p.0 p.1) (both_before Operand (Short n (many_before c Pair))) x front rest
   level_full x front rest (d, lt, st, e) =

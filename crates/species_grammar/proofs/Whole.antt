@@ -1,10 +1,10 @@
 -- A lawful reader decides its grammar on whole lists.
 use Rattle.std.proofs.Common.{◌≡◌, ◌∙◌, ap, sym, refl, subst, ℕ, suc, ◌+◌, ◌<◌, List, [], ◌∷◌, ◌++◌, length, arith, append_assoc, append-nil, inl, inr}
 use Rattle.species_grammar.specs.Reader.{Answer, Reader, ◌>>=◌}
-use Rattle.species_grammar.specs.Lawful.{Spelled, Before, SameFirst, Lawful, Less, Under}
-use Rattle.species_grammar.specs.Whole.{ended, whole, Viable, StopsBefore, Decides}
+use Rattle.species_grammar.specs.Lawful.{Spelled, Before, SameFirst, Lawful, Less, Under, Enough}
+use Rattle.species_grammar.specs.Whole.{ended, whole, Viable, StopsBefore, DecidesGrammar}
 use Rattle.species_grammar.proofs.Laws.{Reads, bind_read, Stops, bind_stuck, same_value, same_rest}
-use Rattle.species_grammar.proofs.Depth.{grow}
+use Rattle.species_grammar.proofs.Depth.{grow, Shallow, bind_shallow}
 
 ended_read : {Tok A : Type 0} (x y : A) (us rest : List Tok) → ended x us ≡ Answer.read y rest → (x ≡ y) × (us ≡ [])
 ended_read x y [] rest h = (same_value h, refl)
@@ -104,5 +104,46 @@ module _ {Tok A : Type 0} (at : ℕ → Reader Tok A) (s : Before Tok A) (f : �
       go (Stops.first d) = place_stuck n ts back d
       go (Stops.second x us o d) = place_read n ts back x us o d
 
-  pub decides : Decides at v
+  pub decides : DecidesGrammar at v
   decides = record { sound = sound; complete = complete; unique = unique; place = place }
+
+-- with enough depth a whole list is read or refused
+pub whole_enough : {Tok A : Type 0} (r : Reader Tok A) (n : ℕ) → Enough r n → Enough (whole r) n
+whole_enough {Tok} {A} r n h ts lt d = go (bind_shallow (r ts) ended d)
+  where
+    not_ended : (x : A) (us : List Tok) → ended x us ≡ Answer.shallow → ⊥
+    not_ended x [] e = cc
+    not_ended x (u ∷ us) e = cc
+
+    go : Shallow (r ts) ended → ⊥
+    go (Shallow.first e) = h ts lt e
+    go (Shallow.second x us o e) = not_ended x us e
+
+-- ---- a list that goes wrong does so at one place
+
+abbrev Dead : {Tok A : Type 0} → Spelled Tok A → List Tok → List Tok → Type 0
+Dead {Tok} v f b = (u : Tok) (us : List Tok) → b ≡ u ∷ us → Viable v (f ++ u ∷ []) → ⊥
+
+module _ {Tok A : Type 0} (v : Spelled Tok A) where
+  -- a shorter list is viable
+  shorter : (h us : List Tok) (u : Tok) → Viable v (h ++ (u ∷ us)) → Viable v (h ++ u ∷ [])
+  shorter h us u (more, x, d) = (us ++ more, x, subst (v x) (append_assoc h (u ∷ us) more ∙ sym (append_assoc h (u ∷ []) (us ++ more))) d)
+
+  same_tail : (u w : Tok) (us ws : List Tok) → u ∷ us ≡ w ∷ ws → us ≡ ws
+  same_tail u w us ws h = cc
+
+  same_head : (u w : Tok) (us ws : List Tok) → u ∷ us ≡ w ∷ ws → u ≡ w
+  same_head u w us ws h = cc
+
+  meet : (f g h b c : List Tok) → f ++ b ≡ g ++ c → Viable v (h ++ f) → Viable v (h ++ g) → Dead v (h ++ f) b → Dead v (h ++ g) c → b ≡ c
+  meet [] [] h b c e vf vg df dg = e
+  meet [] (w ∷ g) h b c e vf vg df dg = absurd (df w (g ++ c) e (subst (λ z. Viable v (z ++ w ∷ [])) (sym (append-nil h)) (shorter h g w vg)))
+  meet (w ∷ f) [] h b c e vf vg df dg = absurd (dg w (f ++ b) (sym e) (subst (λ z. Viable v (z ++ w ∷ [])) (sym (append-nil h)) (shorter h f w vf)))
+  meet (w ∷ f) (u ∷ g) h b c e vf vg df dg =
+      let i = same_head w u (f ++ b) (g ++ c) e in
+      let at_f = sym (append_assoc h (w ∷ []) f) in
+      let at_g = ap (λ z. h ++ (z ∷ g)) (sym i) ∙ sym (append_assoc h (w ∷ []) g) in
+      meet f g (h ++ w ∷ []) b c (same_tail w u (f ++ b) (g ++ c) e) (subst (Viable v) at_f vf) (subst (Viable v) at_g vg) (subst (λ z. Dead v z b) at_f df) (subst (λ z. Dead v z c) at_g dg)
+
+  pub one_stop : (ts b c : List Tok) → StopsBefore v ts b → StopsBefore v ts c → b ≡ c
+  one_stop ts b c s t = meet s.front t.front [] b c (sym s.is ∙ t.is) s.viable t.viable s.dead t.dead

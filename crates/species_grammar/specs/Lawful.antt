@@ -75,6 +75,9 @@ plain v x front rest = v x front
 abbrev pub nothing_spelled : {Tok A : Type 0} → A → Spelled Tok A
 nothing_spelled x y front = (x ≡ y) × (front ≡ [])
 
+abbrev pub one_spelled : {Tok A : Type 0} → (Tok → Option A) → Spelled Tok A
+one_spelled {Tok} says x front = (t : Tok) × (front ≡ t ∷ []) × (says t ≡ Some x)
+
 abbrev pub word_spelled : {Tok A : Type 0} → Word Tok A → Spelled Tok A
 word_spelled w x front = front ≡ w.token x ∷ []
 

@@ -35,10 +35,14 @@ abbrev pub said : {Tok A : Type 0} → Option A → List Tok → List Tok → An
 said (Some x) ts all = Answer.read x ts
 said None ts all = Answer.stuck all
 
+-- one token that says something
+abbrev pub one : {Tok A : Type 0} → (Tok → Option A) → Reader Tok A
+one says [] = Answer.stuck []
+one says (t ∷ ts) = said (says t) ts (t ∷ ts)
+
 -- one token of a class
 abbrev pub word : {Tok A : Type 0} → Word Tok A → Reader Tok A
-word w [] = Answer.stuck []
-word w (t ∷ ts) = said (w.says t) ts (t ∷ ts)
+word w = one w.says
 
 -- nothing, read from no token
 abbrev pub nothing : {Tok A : Type 0} → A → Reader Tok A

@@ -24,7 +24,7 @@ pub record StopsBefore {Tok A : Type 0} (v : Spelled Tok A) (ts back : List Tok)
   pub dead : (t : Tok) (rest : List Tok) → back ≡ t ∷ rest → Viable v (front ++ t ∷ []) → ⊥
 
 -- What the readers of every depth promise of whole lists: they decide the grammar v.
-pub record Decides {Tok A : Type 0} (at : ℕ → Reader Tok A) (v : Spelled Tok A) : Type 0 where
+pub record DecidesGrammar {Tok A : Type 0} (at : ℕ → Reader Tok A) (v : Spelled Tok A) : Type 0 where
   pub sound : (n : ℕ) (ts : List Tok) (x : A) (rest : List Tok) → whole (at n) ts ≡ Answer.read x rest → v x ts
   pub complete : (n : ℕ) (ts : List Tok) (x : A) → v x ts → length ts < n → whole (at n) ts ≡ Answer.read x []
   pub unique : (ts : List Tok) (x y : A) → v x ts → v y ts → x ≡ y

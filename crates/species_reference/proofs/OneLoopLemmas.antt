@@ -16,7 +16,7 @@ use Rattle.species_reference.specs.Shape.{is_shift_at, is_literal_at, is_iterato
 use Rattle.species_reference.proofs.Elements as eq
 use Rattle.species_reference.proofs.SeenLemmas.{accesses-Assign, simple-Assign}
 
-simple_shift : (s : Shift) → is_simple_subscripts (subscript s ∷ []) ≡ true
+pub simple_shift : (s : Shift) → is_simple_subscripts (subscript s ∷ []) ≡ true
 simple_shift Shift.Here = ap is_shift_at (expr.outs-Iter 0)
 simple_shift (Shift.Plus n) =
     ap is_shift_at (expr.outs-Binary binary.Add (expr.Iter 0) (literal n))

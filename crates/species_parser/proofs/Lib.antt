@@ -1,0 +1,13 @@
+pub mod Words
+pub mod Expressions
+pub mod Operands
+pub mod Declarations
+pub mod Headers
+pub mod Statements
+pub mod Units
+pub mod Depth
+pub mod Whole
+pub mod Enough
+pub mod Examples
+pub mod Refusals
+pub mod Places

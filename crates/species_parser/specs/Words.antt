@@ -1,0 +1,160 @@
+-- The classes of tokens that the readers tell apart.
+use Rattle.std.specs.Prelude.{ℕ, List, [], ◌∷◌, Bool, true, false, ◌&&◌, ◌||◌, Option, Some, None, if◌then◌else◌, codes, bytes_eq, nat_eq, nat_le}
+use Prim.Native.String.{String}
+use Rattle.species_grammar.specs.Reader.{Word, is_of}
+use Rattle.species_ast.specs.Token.{Token}
+use Rattle.species_ast.specs.Spelling.{Spelling}
+use Rattle.species_ast.specs.Grammar.Words.{punctuator, keyword, name, number, include, species, parallel, atomic}
+use Rattle.species_ast.specs.Grammar.Expressions.{Operation, binary_sign, unary_sign, level_of}
+use Rattle.species_ast.specs.Grammar.Statements.{assignment_sign, test_sign}
+use Rattle.species_ast.specs.declared.token.TokenKind.{TokenKind}
+use Rattle.species_ast.specs.declared.token.TokenKind.TheVariants as token
+use Rattle.species_ast.specs.declared.tree.Value.{Value}
+use Rattle.species_ast.specs.declared.tree.Schedule.{Schedule}
+use Rattle.species_ast.specs.declared.tree.Binary.TheVariants as binary
+use Rattle.species_ast.specs.declared.tree.Test.{Test}
+use Rattle.species_ast.specs.declared.tree.Test.TheVariants as test
+use Rattle.species_ast.specs.declared.raw.RawUnary.{RawUnary}
+use Rattle.species_ast.specs.declared.raw.RawUnary.TheVariants as unary
+use Rattle.species_ast.specs.declared.raw.RawOp.{RawOp}
+use Rattle.species_ast.specs.declared.raw.RawOp.TheVariants as op
+
+abbrev pub is_punctuator : TokenKind → Bool
+is_punctuator token.Punct = true
+is_punctuator _ = false
+
+abbrev pub is_keyword : TokenKind → Bool
+is_keyword token.Keyword = true
+is_keyword _ = false
+
+abbrev pub when : {A : Type 0} → Bool → A → Option A
+when b x = if b then Some x else None
+
+abbrev pub spelling_of : Token → Spelling
+spelling_of t = record { text = t.text; place = t.place }
+
+-- ---- one punctuator or keyword, of which the place is kept
+
+abbrev pub the_mark : String → Word Token ℕ
+the_mark s = record { says = λ t. when (is_punctuator t.kind && bytes_eq t.text (codes s)) t.place; token = λ p. punctuator p s }
+
+abbrev pub the_keyword : String → Word Token ℕ
+the_keyword s = record { says = λ t. when (is_keyword t.kind && bytes_eq t.text (codes s)) t.place; token = λ p. keyword p s }
+
+-- ---- one of a table of punctuators
+
+-- the first of them that is spelled so
+abbrev pub find_sign : {O : Type 0} → (O → String) → List O → List ℕ → Option O
+find_sign sign [] text = None
+find_sign sign (o ∷ os) text = if bytes_eq text (codes (sign o)) then Some o else find_sign sign os text
+
+abbrev pub placed : {O : Type 0} → ℕ → Bool → Option O → Option (ℕ × O)
+placed p true (Some o) = Some (p, o)
+placed p true None = None
+placed p false o = None
+
+abbrev pub one_of : {O : Type 0} → (O → String) → List O → Word Token (ℕ × O)
+one_of sign all = record { says = λ t. placed t.place (is_punctuator t.kind) (find_sign sign all t.text); token = λ p. punctuator p.0 (sign p.1) }
+
+abbrev pub all_unary : List RawUnary
+all_unary = unary.Neg ∷ unary.Plus ∷ unary.Not ∷ unary.LogNot ∷ []
+
+abbrev pub unary_operators : Word Token (ℕ × RawUnary)
+unary_operators = one_of unary_sign all_unary
+
+abbrev pub all_operations : List Operation
+all_operations =
+    Operation.strict binary.Mul ∷ Operation.strict binary.Div ∷ Operation.strict binary.Rem ∷ Operation.strict binary.Add ∷ Operation.strict binary.Sub ∷ Operation.strict binary.Shl
+    ∷ Operation.strict binary.Shr ∷ Operation.strict binary.Lt ∷ Operation.strict binary.Le ∷ Operation.strict binary.Gt ∷ Operation.strict binary.Ge ∷ Operation.strict binary.Eq
+    ∷ Operation.strict binary.Ne ∷ Operation.strict binary.BitAnd ∷ Operation.strict binary.BitXor ∷ Operation.strict binary.BitOr ∷ Operation.logical_and ∷ Operation.logical_or ∷ []
+
+abbrev pub binary_operators : Word Token (ℕ × Operation)
+binary_operators = one_of binary_sign all_operations
+
+abbrev pub of_level : ℕ → Option (ℕ × Operation) → Option (ℕ × Operation)
+of_level n (Some p) = when (nat_eq (level_of p.1) n) p
+of_level n None = None
+
+-- the binary operators of one level
+abbrev pub operators_at : ℕ → Token → Option (ℕ × Operation)
+operators_at n t = of_level n (binary_operators.says t)
+
+abbrev pub all_assignments : List RawOp
+all_assignments = op.Plain ∷ op.Add ∷ op.Sub ∷ op.Mul ∷ op.Div ∷ op.Rem ∷ op.BitAnd ∷ op.BitXor ∷ op.BitOr ∷ op.Shl ∷ op.Shr ∷ []
+
+abbrev pub assignment_operators : Word Token (ℕ × RawOp)
+assignment_operators = one_of assignment_sign all_assignments
+
+abbrev pub all_tests : List Test
+all_tests = test.Lt ∷ test.Le ∷ test.Gt ∷ test.Ge ∷ []
+
+abbrev pub tests : Word Token (ℕ × Test)
+tests = one_of test_sign all_tests
+
+-- ---- other tokens
+
+abbrev pub name_in : TokenKind → Token → Option Spelling
+name_in token.Name t = Some (spelling_of t)
+name_in _ t = None
+
+abbrev pub names : Word Token Spelling
+names = record { says = λ t. name_in t.kind t; token = name }
+
+abbrev pub number_in : TokenKind → Token → Option (Spelling × Value)
+number_in (token.Number v) t = Some (spelling_of t, v)
+number_in _ t = None
+
+abbrev pub numbers : Word Token (Spelling × Value)
+numbers = record { says = λ t. number_in t.kind t; token = λ p. number p.0 p.1 }
+
+abbrev pub include_in : TokenKind → Token → Option Spelling
+include_in token.Include t = Some (spelling_of t)
+include_in _ t = None
+
+abbrev pub includes : Word Token Spelling
+includes = record { says = λ t. include_in t.kind t; token = include }
+
+abbrev pub species_in : TokenKind → Token → Option Spelling
+species_in token.Species t = Some (spelling_of t)
+species_in _ t = None
+
+abbrev pub species_lines : Word Token Spelling
+species_lines = record { says = λ t. species_in t.kind t; token = species }
+
+abbrev pub parallel_in : TokenKind → Token → Option (Spelling × (ℕ × Schedule))
+parallel_in (token.Parallel d s) t = Some (spelling_of t, (d, s))
+parallel_in _ t = None
+
+abbrev pub parallel_lines : Word Token (Spelling × (ℕ × Schedule))
+parallel_lines = record { says = λ t. parallel_in t.kind t; token = λ p. parallel p.0 p.1.0 p.1.1 }
+
+abbrev pub atomic_in : TokenKind → Token → Option Spelling
+atomic_in token.Atomic t = Some (spelling_of t)
+atomic_in _ t = None
+
+abbrev pub atomic_lines : Word Token Spelling
+atomic_lines = record { says = λ t. atomic_in t.kind t; token = atomic }
+
+-- ---- tests of the next token
+
+abbrev pub is_mark : String → Token → Bool
+is_mark s = is_of (the_mark s)
+
+abbrev pub is_the_keyword : String → Token → Bool
+is_the_keyword s = is_of (the_keyword s)
+
+-- a type begins there
+abbrev pub is_type : Token → Bool
+is_type t = is_the_keyword "int" t || is_the_keyword "unsigned" t
+
+-- a loop begins there
+abbrev pub is_loop : Token → Bool
+is_loop t = is_of species_lines t || is_of parallel_lines t || is_the_keyword "for" t
+
+abbrev pub of_least_level : ℕ → Option (ℕ × Operation) → Bool
+of_least_level n (Some p) = nat_le n (level_of p.1)
+of_least_level n None = false
+
+-- An expression of the level goes on there: a subscript, an operator of the level or a higher one, and at the lowest level a `?`.
+abbrev pub goes_on : ℕ → Token → Bool
+goes_on n t = is_mark "[" t || (of_least_level n (binary_operators.says t) || (nat_eq n 0 && is_mark "?" t))

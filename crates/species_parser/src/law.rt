@@ -1,0 +1,42 @@
+//! What is true of the grammar by itself.
+ghost use Rattle.std.specs.Prelude.{◌≡◌, ℕ, List, Bool};
+ghost use Rattle.species_ast.specs.Token.{Token};
+ghost use Rattle.species_ast.specs.Grammar.Expressions.{Expression, place_of};
+ghost use Rattle.species_ast.specs.Grammar.Declarations.{LocalDeclaration};
+ghost use Rattle.species_ast.specs.Grammar.Statements.{Statement};
+ghost use Rattle.species_ast.specs.Grammar.Units.{Derives, SyntaxErrorBefore};
+ghost use Rattle.species_ast.specs.declared.raw.RawUnit.{RawUnit};
+ghost use Rattle.species_ast.specs.declared.raw.RawExpr.{RawExpr};
+ghost use Rattle.species_ast.specs.declared.raw.RawStmt.{RawStmt};
+ghost use Rattle.species_parser.specs.Places.{StartsAt, after_pragmas, statement_place_of};
+ghost use Rattle.species_parser.specs.Verdict.{IsReadOrWrong};
+
+/// The grammar is unambiguous: a list of tokens derives at most one unit.
+pub fn law_one_unit()
+    ensures { (ts : List Token) (u w : RawUnit) → Derives ts u → Derives ts w → u ≡ w }
+{}
+
+/// A list of tokens derives a unit, or there is a place where it goes wrong.
+pub fn law_read_or_wrong()
+    ensures { (ts : List Token) → IsReadOrWrong ts }
+{}
+
+/// A list of tokens goes wrong at one place.
+pub fn law_one_place()
+    ensures { (ts one other : List Token) → SyntaxErrorBefore ts one → SyntaxErrorBefore ts other → one ≡ other }
+{}
+
+/// The place of an expression or a declaration is that of its first token, and the place of a
+/// statement that of its first token after any pragma.
+pub fn law_places()
+    ensures expression {
+        (level : ℕ) (x : RawExpr) (ts : List Token) → Expression level x ts → StartsAt (place_of x) ts
+    }
+    ensures declaration {
+        (s : RawStmt) (ts : List Token) → LocalDeclaration s ts → StartsAt (statement_place_of s) ts
+    }
+    ensures statement {
+        (last_if : Bool) (s : RawStmt) (ts : List Token)
+            → Statement last_if s ts → StartsAt (statement_place_of s) (after_pragmas ts)
+    }
+{}
