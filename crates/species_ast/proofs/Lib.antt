@@ -1,7 +1,9 @@
 pub mod AccessLaws
 pub mod ArrayLaws
 pub mod Cutting
+mod Examples
 pub mod Examples
+pub mod FirstRefusal
 pub mod Folds
 pub mod Grammar
 pub mod Induction

@@ -19,3 +19,4 @@ pub mod Programs
 pub mod Refusals
 pub mod Conditions
 pub mod WellMade
+pub mod Law

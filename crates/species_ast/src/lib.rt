@@ -7,6 +7,7 @@
 mod copies;
 mod memory;
 mod raw;
+mod scope_law;
 mod stripping;
 mod text;
 mod text_law;
@@ -20,6 +21,7 @@ pub use raw::{
     RawArray, RawChange, RawExpr, RawItem, RawLocal, RawLoop, RawName, RawOp, RawStep, RawStmt,
     RawTarget, RawTerm, RawUnary, RawUnit, RawWhat,
 };
+pub use scope_law::law_refusals;
 pub use stripping::strip;
 pub use text::{Dims, Includes, LineText, Name};
 pub use text_law::law_text;
