@@ -1,4 +1,13 @@
+pub mod Accesses
+pub mod Evaluation
 pub mod Grammar
 pub mod Line
+pub mod Marks
+pub mod Names
+pub mod Operators
+pub mod Run
 pub mod Spelling
+pub mod Strip
+pub mod Text
 pub mod Token
+pub mod Reading

@@ -4,19 +4,30 @@
 //! a list of children is a list, a child is a value, and a name is the list of its bytes.
 #![tactic(auto)]
 
+mod copies;
 mod memory;
 mod raw;
+mod stripping;
 mod text;
+mod text_law;
 mod token;
+mod trap;
 mod tree;
 
+pub use copies::{copy, copy_expr, copy_exprs, copy_loop, copy_stmt, copy_stmts};
 pub use memory::OutOfMemory;
 pub use raw::{
     RawArray, RawChange, RawExpr, RawItem, RawLocal, RawLoop, RawName, RawOp, RawStep, RawStmt,
     RawTarget, RawTerm, RawUnary, RawUnit, RawWhat,
 };
+pub use stripping::strip;
 pub use text::{Dims, Includes, LineText, Name};
-pub use token::TokenKind;
+pub use text_law::law_text;
+pub use token::{LexRefusal, TokenKind};
+pub use trap::{Trap, Undefined};
 pub use tree::{
     Array, Binary, Expr, Kind, LocalInfo, Loop, Mark, Schedule, Stmt, Test, Unary, Unit, Value,
 };
+
+#[cfg(test)]
+mod tests;

@@ -14,3 +14,15 @@ pub enum TokenKind {
     Parallel(u32, Schedule),
     Atomic,
 }
+
+/// Why a text has no tokens from some place on: the first thing in it that is no token, blank or
+/// comment of the language. Each has its place.
+#[derive(Clone, Copy, Debug, PartialEq, Eq)]
+pub enum LexRefusal {
+    /// No token begins at this byte, or the directive whose `#` stands here has no form.
+    BadByte(u32),
+    /// The number that begins here is no literal of the language.
+    BadNumber(u32),
+    /// The comment whose `/*` stands here has no end.
+    OpenComment(u32),
+}

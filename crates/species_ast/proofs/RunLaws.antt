@@ -1,0 +1,151 @@
+-- Laws of programs: what each expression and statement does, and how lists and loops are put together.
+use Rattle.std.proofs.Common.{◌≡◌, refl, ap, sym, ◌∙◌, ℕ, zero, suc, ◌+◌, List, [], ◌∷◌, ◌++◌, map, length, Option, Bool, ℤ, arith, if◌then◌else◌, true, false}
+use Rattle.species_ast.specs.declared.tree.Kind.{Kind}
+use Rattle.species_ast.specs.declared.tree.Kind.TheVariants as kind
+use Rattle.species_ast.specs.declared.tree.Value.{Value}
+use Rattle.species_ast.specs.declared.tree.Value.TheVariants.{Int}
+use Rattle.species_ast.specs.declared.tree.Unary.{Unary}
+use Rattle.species_ast.specs.declared.tree.Binary.{Binary}
+use Rattle.species_ast.specs.declared.tree.Expr.{Expr, fold-Expr, fold-roll-Expr}
+use Rattle.species_ast.specs.declared.tree.Expr.TheOpen.{Expr-F}
+use Rattle.species_ast.specs.declared.tree.Expr.TheVariants as e
+use Rattle.species_ast.specs.declared.tree.Stmt.{Stmt, fold-Stmt, fold-roll-Stmt}
+use Rattle.species_ast.specs.declared.tree.Stmt.TheOpen.{Stmt-F, Loop-F}
+use Rattle.species_ast.specs.declared.tree.Stmt.TheVariants as s
+use Rattle.species_ast.specs.declared.tree.Loop.{Loop, fold-Loop, fold-roll-Loop, fold_out-Loop, out-Loop, roll-Loop}
+use Rattle.species_ast.specs.Operators.{kind_of, joint, converted, truth, is_true, unary_of, unary_kind, binary_of, binary_kind}
+use Rattle.species_ast.specs.Accesses.{Cells, Tree, Ret, Stop, Read, Write, Add, then_do, Outcome, Done, Undefined, run, Access, accesses}
+use Rattle.species_ast.specs.Evaluation.{Frame, Context, Spot, Sense, sense, sense_at, array_kind, local_kind, iterator, local_of, with_local, known, answered, elements_in, target_of, element_at, site_at}
+use Rattle.species_ast.specs.Run.{Doing, Step, list_of, scope_of, turns, inside, outside, step, step_at, loop_at, loop_of, does_list, does_scope, assignment, adding, declaring, setting, branching, looping, plain, spot, restored, declared_in}
+use Rattle.species_ast.proofs.AccessLaws.{go_on, accesses_on, run-then_do, accesses-then_do, then_do-assoc}
+
+-- ---- what each expression does
+
+pub sense-Literal : (w : Context) (v : Value) → sense w (e.Literal v) ≡ sense_at w (Expr-F.Literal v)
+sense-Literal w v = ap (sense w) (sym (e.rolls-Literal v)) ∙ fold-roll-Expr Sense (sense_at w) (Expr-F.Literal v)
+
+pub sense-Iter : (w : Context) (level : ℕ) → sense w (e.Iter level) ≡ sense_at w (Expr-F.Iter level)
+sense-Iter w level = ap (sense w) (sym (e.rolls-Iter level)) ∙ fold-roll-Expr Sense (sense_at w) (Expr-F.Iter level)
+
+pub sense-Local : (w : Context) (x : ℕ) → sense w (e.Local x) ≡ sense_at w (Expr-F.Local x)
+sense-Local w x = ap (sense w) (sym (e.rolls-Local x)) ∙ fold-roll-Expr Sense (sense_at w) (Expr-F.Local x)
+
+pub sense-Elem : (w : Context) (a : ℕ) (subs : List Expr) → sense w (e.Elem a subs) ≡ sense_at w (Expr-F.Elem a (map (sense w) subs))
+sense-Elem w a subs = ap (sense w) (sym (e.rolls-Elem a subs)) ∙ fold-roll-Expr Sense (sense_at w) (Expr-F.Elem a subs)
+
+pub sense-Unary : (w : Context) (op : Unary) (a : Expr) → sense w (e.Unary op a) ≡ sense_at w (Expr-F.Unary op (sense w a))
+sense-Unary w op a = ap (sense w) (sym (e.rolls-Unary op a)) ∙ fold-roll-Expr Sense (sense_at w) (Expr-F.Unary op a)
+
+pub sense-Binary : (w : Context) (op : Binary) (a b : Expr) → sense w (e.Binary op a b) ≡ sense_at w (Expr-F.Binary op (sense w a) (sense w b))
+sense-Binary w op a b = ap (sense w) (sym (e.rolls-Binary op a b)) ∙ fold-roll-Expr Sense (sense_at w) (Expr-F.Binary op a b)
+
+pub sense-And : (w : Context) (a b : Expr) → sense w (e.And a b) ≡ sense_at w (Expr-F.And (sense w a) (sense w b))
+sense-And w a b = ap (sense w) (sym (e.rolls-And a b)) ∙ fold-roll-Expr Sense (sense_at w) (Expr-F.And a b)
+
+pub sense-Or : (w : Context) (a b : Expr) → sense w (e.Or a b) ≡ sense_at w (Expr-F.Or (sense w a) (sense w b))
+sense-Or w a b = ap (sense w) (sym (e.rolls-Or a b)) ∙ fold-roll-Expr Sense (sense_at w) (Expr-F.Or a b)
+
+pub sense-Cond : (w : Context) (c a b : Expr) → sense w (e.Cond c a b) ≡ sense_at w (Expr-F.Cond (sense w c) (sense w a) (sense w b))
+sense-Cond w c a b = ap (sense w) (sym (e.rolls-Cond c a b)) ∙ fold-roll-Expr Sense (sense_at w) (Expr-F.Cond c a b)
+
+pub sense-Cast : (w : Context) (k : Kind) (a : Expr) → sense w (e.Cast k a) ≡ sense_at w (Expr-F.Cast k (sense w a))
+sense-Cast w k a = ap (sense w) (sym (e.rolls-Cast k a)) ∙ fold-roll-Expr Sense (sense_at w) (Expr-F.Cast k a)
+
+-- ---- what each statement does
+
+pub step-Assign : (w : Context) (place a : ℕ) (subs : List Expr) (value : Expr)
+    → step w (s.Assign place a subs value) ≡ plain (λ at. assignment w a (map (sense w) subs) (sense w value) (spot place at))
+step-Assign w place a subs value =
+    ap (step w) (sym (s.rolls-Assign place a subs value)) ∙ fold-roll-Stmt Step Doing (step_at w) (loop_at w) (Stmt-F.Assign place a subs value)
+
+pub step-AddTo : (w : Context) (place a : ℕ) (subs : List Expr) (value : Expr) (atomic : Bool)
+    → step w (s.AddTo place a subs value atomic) ≡ plain (λ at. adding w a atomic (map (sense w) subs) (sense w value) (spot place at))
+step-AddTo w place a subs value atomic =
+    ap (step w) (sym (s.rolls-AddTo place a subs value atomic)) ∙ fold-roll-Stmt Step Doing (step_at w) (loop_at w) (Stmt-F.AddTo place a subs value atomic)
+
+pub step-Declare : (w : Context) (place x : ℕ) (init : Option Expr)
+    → step w (s.Declare place x init) ≡ record { declares = x ∷ []; does = λ at. declaring w x init (spot place at) }
+step-Declare w place x init =
+    ap (step w) (sym (s.rolls-Declare place x init)) ∙ fold-roll-Stmt Step Doing (step_at w) (loop_at w) (Stmt-F.Declare place x init)
+
+pub step-SetLocal : (w : Context) (place x : ℕ) (value : Expr)
+    → step w (s.SetLocal place x value) ≡ plain (λ at. setting w x (sense w value) (spot place at))
+step-SetLocal w place x value =
+    ap (step w) (sym (s.rolls-SetLocal place x value)) ∙ fold-roll-Stmt Step Doing (step_at w) (loop_at w) (Stmt-F.SetLocal place x value)
+
+pub step-If : (w : Context) (place : ℕ) (test : Expr) (body otherwise : List Stmt)
+    → step w (s.If place test body otherwise)
+    ≡ plain (λ at. branching (sense w test) (does_scope w body at 0) (does_scope w otherwise at (length (map (step w) body))) (spot place at))
+step-If w place test body otherwise =
+    ap (step w) (sym (s.rolls-If place test body otherwise)) ∙ fold-roll-Stmt Step Doing (step_at w) (loop_at w) (Stmt-F.If place test body otherwise)
+
+pub step-For : (w : Context) (l : Loop) → step w (s.For l) ≡ plain (loop_of w l)
+step-For w l = ap (step w) (sym (s.rolls-For l)) ∙ fold-roll-Stmt Step Doing (step_at w) (loop_at w) (Stmt-F.For l)
+
+pub step-Block : (w : Context) (body : List Stmt) → step w (s.Block body) ≡ plain (λ at. does_scope w body at 0)
+step-Block w body = ap (step w) (sym (s.rolls-Block body)) ∙ fold-roll-Stmt Step Doing (step_at w) (loop_at w) (Stmt-F.Block body)
+
+-- a loop is its header and its turns
+pub loop_is : (w : Context) (l : Loop)
+    → loop_of w l ≡ (λ at. looping (out-Loop l).test (out-Loop l).step (sense w (out-Loop l).start) (sense w (out-Loop l).limit) (does_scope w (out-Loop l).body at 0) (spot (out-Loop l).place at))
+loop_is w l = fold_out-Loop Step Doing (step_at w) (loop_at w) l
+
+-- ---- lists of statements
+
+-- a list is its first statement, and then the rest
+pub does_list-cons : (w : Context) (x : Stmt) (xs : List Stmt) (at : List ℕ) (k : ℕ) (f : Frame)
+    → does_list w (x ∷ xs) at k f ≡ then_do ((step w x).does (at ++ k ∷ []) f) (does_list w xs at (suc k))
+does_list-cons w x xs at k f = refl
+
+-- one list after another
+pub does_list-append : (w : Context) (xs ys : List Stmt) (at : List ℕ) (k : ℕ) (f : Frame)
+    → does_list w (xs ++ ys) at k f ≡ then_do (does_list w xs at k f) (does_list w ys at (k + length xs))
+does_list-append w [] ys at k f =
+    let same : k ≡ k + 0 = omega arith in
+    ap (λ n. does_list w ys at n f) same
+does_list-append w (x ∷ xs) ys at k f =
+    let first = (step w x).does (at ++ k ∷ []) f in
+    let same : suc k + length xs ≡ k + suc (length xs) = omega arith in
+    let rest : (g : Frame) → does_list w (xs ++ ys) at (suc k) g ≡ then_do (does_list w xs at (suc k) g) (does_list w ys at (k + suc (length xs))) =
+    λ g. does_list-append w xs ys at (suc k) g ∙ ap (λ n. then_do (does_list w xs at (suc k) g) (does_list w ys at n)) same
+    in
+    ap (then_do first) (λ i g. rest g i) ∙ sym (then_do-assoc first (does_list w xs at (suc k)) (does_list w ys at (k + suc (length xs))))
+
+pub run_list-cons : (w : Context) (x : Stmt) (xs : List Stmt) (at : List ℕ) (k : ℕ) (f : Frame) (m : Cells)
+    → run (does_list w (x ∷ xs) at k f) m
+    ≡ go_on (run ((step w x).does (at ++ k ∷ []) f) m) (λ g n. run (does_list w xs at (suc k) g) n)
+run_list-cons w x xs at k f m = run-then_do ((step w x).does (at ++ k ∷ []) f) (does_list w xs at (suc k)) m
+
+pub run_list-append : (w : Context) (xs ys : List Stmt) (at : List ℕ) (k : ℕ) (f : Frame) (m : Cells)
+    → run (does_list w (xs ++ ys) at k f) m
+    ≡ go_on (run (does_list w xs at k f) m) (λ g n. run (does_list w ys at (k + length xs) g) n)
+run_list-append w xs ys at k f m =
+    ap (λ t. run t m) (does_list-append w xs ys at k f) ∙ run-then_do (does_list w xs at k f) (does_list w ys at (k + length xs)) m
+
+pub accesses_list-append : (w : Context) (xs ys : List Stmt) (at : List ℕ) (k : ℕ) (f : Frame) (m : Cells)
+    → accesses (does_list w (xs ++ ys) at k f) m
+    ≡ accesses (does_list w xs at k f) m ++ accesses_on (run (does_list w xs at k f) m) (λ g n. accesses (does_list w ys at (k + length xs) g) n)
+accesses_list-append w xs ys at k f m =
+    ap (λ t. accesses t m) (does_list-append w xs ys at k f) ∙ accesses-then_do (does_list w xs at k f) (does_list w ys at (k + length xs)) m
+
+-- ---- the turns of a loop
+
+-- the turns of a loop are its first turn, and then the rest
+pub turns-cons : (i : ℤ) (is : List ℤ) (body : Frame → Tree Frame) (f : Frame)
+    → turns (i ∷ is) body f ≡ then_do (body (inside f i)) (λ g. turns is body (outside f g))
+turns-cons i is body f = refl
+
+pub turns-append : (is js : List ℤ) (body : Frame → Tree Frame) (f : Frame)
+    → turns (is ++ js) body f ≡ then_do (turns is body f) (turns js body)
+turns-append [] js body f = refl
+turns-append (i ∷ is) js body f =
+    ap (then_do (body (inside f i))) (λ d g. turns-append is js body (outside f g) d)
+    ∙ sym (then_do-assoc (body (inside f i)) (λ g. turns is body (outside f g)) (turns js body))
+
+pub run_turns-cons : (i : ℤ) (is : List ℤ) (body : Frame → Tree Frame) (f : Frame) (m : Cells)
+    → run (turns (i ∷ is) body f) m ≡ go_on (run (body (inside f i)) m) (λ g n. run (turns is body (outside f g)) n)
+run_turns-cons i is body f m = run-then_do (body (inside f i)) (λ g. turns is body (outside f g)) m
+
+pub run_turns-append : (is js : List ℤ) (body : Frame → Tree Frame) (f : Frame) (m : Cells)
+    → run (turns (is ++ js) body f) m ≡ go_on (run (turns is body f) m) (λ g n. run (turns js body g) n)
+run_turns-append is js body f m = ap (λ t. run t m) (turns-append is js body f) ∙ run-then_do (turns is body f) (turns js body) m

@@ -1,0 +1,6 @@
+pub mod Answer
+pub mod Bounds
+pub mod NameTable
+pub mod OneLoopReading
+pub mod OneLoopText
+pub mod Table

@@ -1,0 +1,12 @@
+//! The commands of the compiler: bytes in, bytes out, and a status.
+#![tactic(auto)]
+
+mod one_loop;
+mod table;
+mod top;
+mod words;
+
+pub use top::species;
+
+#[cfg(test)]
+mod tests;

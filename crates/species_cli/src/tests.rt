@@ -1,0 +1,215 @@
+use super::*;
+use species_ast::OutOfMemory;
+use species_io::{MemSink, MemSource};
+use std::alloc::{AllocError, Global};
+
+const USAGE: &[u8] =
+    b"usage: species arcs|annotate|compile|check|run [--trace]|drill --nests N --from F\n";
+
+const NOT_BUILT: &[u8] = b"refused 19 NotBuilt at 0\n";
+
+const ROOM: usize = 16_777_216;
+
+const COPY: &[u8] =
+    b"int A[64];\nint B[64];\nvoid k(void) {\n    for (int i = 0; i < 64; i++) {\n        B[i] = 2 * A[i];\n    }\n}\n";
+
+const COPY_TABLE: &[u8] =
+    b"loop 41\n0 read A[0:63] elements (1) step (1)|element at (i) exact\n1 write B[0:63] elements (1) step (1)|element at (i) exact\n";
+
+/// How the bytes go in and out: the most of one call, and one call that fails.
+#[derive(Clone, Copy)]
+struct Channels {
+    read_piece: usize,
+    read_fails: u64,
+    write_piece: usize,
+    write_fails: u64,
+    note_fails: u64,
+}
+
+const NEVER: u64 = u64::MAX - 1;
+
+const PLAIN: Channels = Channels {
+    read_piece: 65_536,
+    read_fails: NEVER,
+    write_piece: 65_536,
+    write_fails: NEVER,
+    note_fails: NEVER,
+};
+
+fn words(alloc: Global, texts: &[&str]) -> Result<Vec<String>, AllocError> {
+    let mut words = Vec::new(alloc);
+    for text in texts {
+        words.push(String::from_str(alloc, text)?)?;
+    }
+    Ok(words)
+}
+
+fn sink(alloc: Global, piece: usize, fails: u64) -> Result<MemSink, OutOfMemory> {
+    MemSink::new(alloc, ROOM, piece.max(1), Vec::from_slice(alloc, &[fails])?)
+}
+
+/// The status, what `output` took and what `notes` took.
+fn run(
+    alloc: Global,
+    texts: &[&str],
+    input: Vec<u8>,
+    channels: Channels,
+) -> Result<(u8, MemSink, MemSink), OutOfMemory> {
+    let words = words(alloc, texts)?;
+    let fails = Vec::from_slice(alloc, &[channels.read_fails])?;
+    let mut input = MemSource::new(input, channels.read_piece.max(1), fails);
+    let mut output = sink(alloc, channels.write_piece, channels.write_fails)?;
+    let mut notes = sink(alloc, channels.write_piece, channels.note_fails)?;
+    let status = species(alloc, &words, &mut input, &mut output, &mut notes);
+    Ok((status, output, notes))
+}
+
+#[test]
+fn tables_and_refusals_of_whole_programs(rt: HostRuntime) {
+    let cases: [(&[u8], u8, &[u8], &[u8]); 8] = [
+        (COPY, 0, COPY_TABLE, b""),
+        (
+            b"int A[8];\nvoid k(void) {\n    for (int i = 3; i < 8; i++) {\n        A[i] = A[i - 3];\n    }\n}\n",
+            0,
+            b"loop 29\n0 read A[0:4] elements (1) step (1)|element at (i-3) exact\n1 write A[3:7] elements (1) step (1)|element at (i) exact\n",
+            b"",
+        ),
+        (
+            b"int A[1];\nvoid k(void) {\n    for (int i = 0; i < 0; i++) {\n        A[i] = 1;\n    }\n}\n",
+            0,
+            b"loop 29\n0 write A[0:-1] elements (1) step (1)|element at (i) exact\n",
+            b"",
+        ),
+        (
+            b"int A[9];\nint B[9];\nvoid f(void) {\n    for (int n = 1; n < 8; n++) {\n        B[n] = A[n - 1] + 3 * B[n + 1] + 7;\n        A[n + 0] = 2;\n    }\n}\n",
+            0,
+            b"loop 39\n0 read A[0:6] elements (1) step (1)|element at (n-1) exact\n1 read B[2:8] elements (1) step (1)|element at (n+1) exact\n2 write B[1:7] elements (1) step (1)|element at (n) exact\n3 write A[1:7] elements (1) step (1)|element at (n) exact\n",
+            b"",
+        ),
+        (
+            b"void f(void) {\n    for (int n = 1; n < 8; n++) {\n    }\n}\n",
+            0,
+            b"loop 19\n",
+            b"",
+        ),
+        (b"", 1, b"", NOT_BUILT),
+        (b"int A[4];\n", 1, b"", NOT_BUILT),
+        (
+            b"int A[8];\nvoid k(void) {\n    for (int i = 3; i < 8; i++) {\n        A[i] = A[j - 3];\n    }\n}\n",
+            1,
+            b"",
+            NOT_BUILT,
+        ),
+    ];
+    let alloc = rt.alloc();
+    for (text, status, output, notes) in cases {
+        let input = Vec::from_slice(alloc, text).expect(&rt, "memory");
+        let got = run(alloc, &["species", "arcs"], input, PLAIN).expect(&rt, "memory");
+        assert_eq!(rt; got.0, status, "status");
+        assert!(rt; got.1.bytes() == output, "output");
+        assert!(rt; got.2.bytes() == notes, "notes");
+    }
+}
+
+#[test]
+fn words_that_are_no_command(rt: HostRuntime) {
+    let cases: [&[&str]; 6] = [
+        &[],
+        &["arcs"],
+        &["species", "compile"],
+        &["species", "arcs", "arcs"],
+        &["species", "--help"],
+        &["species", ""],
+    ];
+    let alloc = rt.alloc();
+    for texts in cases {
+        let input = Vec::from_slice(alloc, COPY).expect(&rt, "memory");
+        let got = run(alloc, texts, input, PLAIN).expect(&rt, "memory");
+        assert_eq!(rt; got.0, 2, "status");
+        assert!(rt; got.1.bytes().is_empty(), "output");
+        assert!(rt; got.2.bytes() == USAGE, "notes");
+    }
+}
+
+#[test]
+fn small_pieces_and_faults(rt: HostRuntime) {
+    let slow = Channels {
+        read_piece: 1,
+        write_piece: 1,
+        ..PLAIN
+    };
+    let tens = Channels {
+        write_piece: 10,
+        write_fails: 2,
+        ..PLAIN
+    };
+    let cases: [(Channels, &[u8], u8, &[u8], &[u8]); 6] = [
+        (slow, COPY, 0, COPY_TABLE, b""),
+        (tens, COPY, 5, b"loop 41\n0 read A[0:6", b""),
+        (
+            Channels {
+                read_fails: 0,
+                ..PLAIN
+            },
+            COPY,
+            4,
+            b"",
+            b"read fault\n",
+        ),
+        (
+            Channels {
+                read_fails: 5,
+                ..slow
+            },
+            COPY,
+            4,
+            b"",
+            b"read fault\n",
+        ),
+        (
+            Channels {
+                note_fails: 3,
+                ..slow
+            },
+            b"",
+            5,
+            b"",
+            b"ref",
+        ),
+        (
+            Channels {
+                note_fails: 0,
+                ..PLAIN
+            },
+            COPY,
+            0,
+            COPY_TABLE,
+            b"",
+        ),
+    ];
+    let alloc = rt.alloc();
+    for (channels, text, status, output, notes) in cases {
+        let input = Vec::from_slice(alloc, text).expect(&rt, "memory");
+        let got = run(alloc, &["species", "arcs"], input, channels).expect(&rt, "memory");
+        assert_eq!(rt; got.0, status, "status");
+        assert!(rt; got.1.bytes() == output, "output");
+        assert!(rt; got.2.bytes() == notes, "notes");
+    }
+}
+
+#[test]
+fn the_longest_input(rt: HostRuntime) {
+    let cases: [(usize, &[u8]); 2] = [
+        (4_194_304, NOT_BUILT),
+        (4_194_305, b"refused 18 TooLong at 4194304\n"),
+    ];
+    let alloc = rt.alloc();
+    for (size, notes) in cases {
+        let mut input = Vec::from_slice(alloc, COPY).expect(&rt, "memory");
+        input.resize(size, b' ').expect(&rt, "memory");
+        let got = run(alloc, &["species", "arcs"], input, PLAIN).expect(&rt, "memory");
+        assert_eq!(rt; got.0, 1, "status");
+        assert!(rt; got.1.bytes().is_empty(), "output");
+        assert!(rt; got.2.bytes() == notes, "notes");
+    }
+}

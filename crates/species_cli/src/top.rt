@@ -1,0 +1,129 @@
+//! The call that the program makes.
+ghost use Rattle.std.specs.Prelude.{◌≡◌, ◌≢◌, ◌⊎◌, ◌≤◌, ◌<◌, ◌+◌, ℕ, List, Some, length};
+ghost use Rattle.species_io.specs.Told.{Rose, then_bytes, AtEnd, GaveAtMost, TookPart};
+ghost use Rattle.species_reference.specs.OneLoop.{OneLoop};
+ghost use Rattle.species_cli.specs.OneLoopText.{IsOneLoopText};
+ghost use Rattle.species_cli.specs.Answer.{IsArcs, IsAnswered, IsNoted, IsPartlyAnswered, IsPartlyNoted, IsNoOneLoop, most_input, usage_line, read_fault_line};
+
+use crate::one_loop::{ReadRefusal, read_one_loop};
+use crate::table::table;
+use crate::words::read_words;
+use species_io::{ReadAnswer, Sink, Source, read_whole, write_all};
+use std::alloc::Global;
+
+const MOST_INPUT: u32 = 4_194_304;
+
+const ANSWERED: u8 = 0;
+
+const REFUSED: u8 = 1;
+
+const USAGE: u8 = 2;
+
+const READ_FAULT: u8 = 4;
+
+const WRITE_FAULT: u8 = 5;
+
+const MEMORY: u8 = 6;
+
+/// The status, or that of a fault where its line could not be written.
+fn say<N: Sink>(notes: &mut N, line: &[u8], status: u8) -> u8
+    requires { status ≢ 5 }
+    ensures status { (result ≡ status) ⊎ (result ≡ 5) }
+    ensures whole { result ≢ 5 → N.taken notes.new ≡ then_bytes (N.taken notes.old) line.now }
+    ensures part { result ≡ 5 → TookPart (N.taken notes.old) (N.taken notes.new) line.now }
+    ensures fault { result ≡ 5 → Rose (N.faults notes.old) (N.faults notes.new) }
+{
+    match write_all(notes, line) {
+        Ok(()) => status,
+        Err(_) => WRITE_FAULT,
+    }
+}
+
+/// Does what the words ask for, and answers the status of the program.
+///
+/// | Status | When |
+/// |---|---|
+/// | 0 | the answer was written to `output` |
+/// | 1 | the input is refused, for the reason on `notes` |
+/// | 2 | the words ask for no command |
+/// | 4 | a read failed |
+/// | 5 | a write failed |
+/// | 6 | there was not enough memory |
+///
+/// The answer is built whole before the first byte of it is written.
+pub fn species<S: Source, K: Sink, N: Sink>(
+    alloc: Global,
+    words: &[String],
+    input: &mut S,
+    output: &mut K,
+    notes: &mut N,
+) -> u8
+    ensures statuses { (result ≤ 6) × (result ≢ 3) }
+
+    // Status 0: the table of the program that was read, and it is true.
+    ensures answered { result ≡ 0 → (bytes : List ℕ) → S.left input.old ≡ Some bytes → IsAnswered bytes (K.taken output.old) (K.taken output.new) }
+    ensures lawful { result ≡ 0 → IsArcs words.now }
+    ensures read_all { result ≡ 0 → AtEnd (S.left input.new) }
+
+    // Every other status: nothing on `output`, and its line on `notes`.
+    ensures untouched { result ≢ 0 → result ≢ 5 → K.taken output.new ≡ K.taken output.old }
+    ensures noted { result ≢ 0 → result ≢ 5 → result ≢ 6 → (bytes : List ℕ) → S.left input.old ≡ Some bytes
+        → IsNoted words.now (Rose (S.faults input.old) (S.faults input.new)) bytes result (N.taken notes.old) (N.taken notes.new) }
+    ensures silent { (result ≡ 0) ⊎ (result ≡ 6) → N.taken notes.new ≡ N.taken notes.old }
+
+    // Status 1: where the input is not too long it was read to its end.
+    ensures refused_read_all { result ≡ 1 → (bytes : List ℕ) → S.left input.old ≡ Some bytes → length bytes ≤ most_input → AtEnd (S.left input.new) }
+
+    // Status 2: exactly where the words are not lawful, and then nothing is read.
+    ensures usage { result ≡ 2 → (IsArcs words.now → ⊥) × (N.taken notes.new ≡ then_bytes (N.taken notes.old) usage_line) }
+    ensures unlawful { (IsArcs words.now → ⊥) → (result ≡ 2) ⊎ (result ≡ 5) }
+    ensures unread { (IsArcs words.now → ⊥) → input.new ≡ input.old }
+
+    // Statuses 4 and 5: only where a count of faults rose.
+    ensures read_fault { result ≡ 4 → Rose (S.faults input.old) (S.faults input.new) × (N.taken notes.new ≡ then_bytes (N.taken notes.old) read_fault_line) }
+    ensures write_fault { result ≡ 5 → Rose (K.faults output.old) (K.faults output.new) ⊎ Rose (N.faults notes.old) (N.faults notes.new) }
+    ensures cut_short { result ≡ 5 → (bytes : List ℕ) → S.left input.old ≡ Some bytes
+        → (IsPartlyAnswered words.now bytes (K.taken output.old) (K.taken output.new) × (N.taken notes.new ≡ N.taken notes.old))
+        ⊎ (IsPartlyNoted words.now (Rose (S.faults input.old) (S.faults input.new)) bytes (N.taken notes.old) (N.taken notes.new) × (K.taken output.new ≡ K.taken output.old)) }
+
+    // Once more bytes than the limit came, no more is asked.
+    ensures budget { GaveAtMost (most_input + 1) (S.left input.old) (S.left input.new) }
+
+    // Where no count rose, the answer is the defined one, or there was not enough memory.
+    ensures complete { (bytes : List ℕ) → S.left input.old ≡ Some bytes → IsArcs words.now → length bytes ≤ most_input
+        → (p : OneLoop) → IsOneLoopText bytes p
+        → (Rose (S.faults input.old) (S.faults input.new) → ⊥) → (Rose (K.faults output.old) (K.faults output.new) → ⊥) → (Rose (N.faults notes.old) (N.faults notes.new) → ⊥)
+        → (result ≡ 0) ⊎ (result ≡ 6) }
+    ensures refuses { (bytes : List ℕ) → S.left input.old ≡ Some bytes → IsArcs words.now → (most_input < length bytes) ⊎ IsNoOneLoop bytes
+        → (Rose (S.faults input.old) (S.faults input.new) → ⊥) → (Rose (N.faults notes.old) (N.faults notes.new) → ⊥)
+        → (result ≡ 1) ⊎ (result ≡ 6) }
+{
+    if read_words(words).is_err() {
+        return say(
+            notes,
+            b"usage: species arcs|annotate|compile|check|run [--trace]|drill --nests N --from F\n",
+            USAGE,
+        );
+    }
+    let bytes = match read_whole(alloc, input, MOST_INPUT) {
+        Ok(bytes) => bytes,
+        Err(ReadAnswer::TooLong) => {
+            return say(notes, b"refused 18 TooLong at 4194304\n", REFUSED);
+        }
+        Err(ReadAnswer::ReadFault) => return say(notes, b"read fault\n", READ_FAULT),
+        Err(ReadAnswer::Memory) => return MEMORY,
+    };
+    let unit = match read_one_loop(alloc, &bytes) {
+        Ok(unit) => unit,
+        Err(ReadRefusal::NotBuilt) => return say(notes, b"refused 19 NotBuilt at 0\n", REFUSED),
+        Err(ReadRefusal::Memory) => return MEMORY,
+    };
+    let text = match table(alloc, &unit) {
+        Ok(text) => text,
+        Err(_) => return MEMORY,
+    };
+    match write_all(output, &text) {
+        Ok(()) => ANSWERED,
+        Err(_) => WRITE_FAULT,
+    }
+}

@@ -1,0 +1,4 @@
+pub mod Products
+pub mod Sizes
+pub mod Divisors
+pub mod Ranges

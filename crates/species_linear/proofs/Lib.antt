@@ -1,0 +1,11 @@
+pub mod Order
+pub mod Running
+pub mod Coefficients
+pub mod CornerEnds
+pub mod Linear
+pub mod Agree
+pub mod Parts
+pub mod Levels
+pub mod Separate
+pub mod Extremes
+pub mod Magnitude

@@ -1,0 +1,5 @@
+pub mod Rising
+pub mod Point
+pub mod Value
+pub mod Box
+pub mod Corner
