@@ -12,3 +12,4 @@ pub mod Spelling
 pub mod Strip
 pub mod Text
 pub mod Token
+pub mod Reading

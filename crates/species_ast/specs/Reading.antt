@@ -1,5 +1,5 @@
--- What a text is read as: a unit, or the first refusal of its text, its load and its grammar, in this order.
-use Rattle.std.specs.Prelude.{◌≡◌, ℕ, List, length, Option, Some, None}
+-- Reading a program: from its bytes to its raw tree, or to the reason against it that is looked at first.
+use Rattle.std.specs.Prelude.{◌≡◌, ℕ, List, length, Option, Some, None, ◌⊎◌}
 use Rattle.species_ast.specs.Token.{Token}
 use Rattle.species_ast.specs.Text.Stream.{TokenStream, IsCut, grammar_tokens}
 use Rattle.species_ast.specs.Text.Load.{load_refusal}
@@ -7,28 +7,44 @@ use Rattle.species_ast.specs.Grammar.Units.{Derives, SyntaxErrorBefore, place_be
 use Rattle.species_ast.specs.declared.token.LexRefusal.{LexRefusal}
 use Rattle.species_ast.specs.declared.raw.RawUnit.{RawUnit}
 
--- Nothing in the text is refused, and the grammar derives the unit from its tokens. The load is no part of this.
-pub record Reads (text : List ℕ) (u : RawUnit) : Type 0 where
-  pub stream : TokenStream
-  pub cut : IsCut text stream
-  pub whole : stream.refusal ≡ None
-  pub derived : Derives (grammar_tokens stream.tokens) u
+-- The text has no refusal, and these are the tokens that the grammar sees.
+abbrev pub HasTokens : List ℕ → List Token → Type 0
+HasTokens text ts = (s : TokenStream) × IsCut text s × (s.refusal ≡ None) × (ts ≡ grammar_tokens s.tokens)
 
-pub data Reading : Type 0 where
-  Accepted : RawUnit → Reading
-  -- the text is refused
-  Lex : LexRefusal → Reading
-  -- the load is too high from the token at this place on
-  Load : ℕ → Reading
-  -- no derivation goes on with the token at this place
-  Syntax : ℕ → Reading
+-- The text is a program with this tree, whatever its load: so is what is written read back.
+abbrev pub Reads : List ℕ → RawUnit → Type 0
+Reads text u = (ts : List Token) × HasTokens text ts × Derives ts u
 
--- What a tool reads a text as. A later refusal is looked for only where the earlier ones hold nothing.
-pub data IsReadAs : List ℕ → Reading → Type 0 where
-  lex : (text : List ℕ) (s : TokenStream) (r : LexRefusal) → IsCut text s → s.refusal ≡ Some r → IsReadAs text (Lex r)
-  load : (text : List ℕ) (s : TokenStream) (place : ℕ) → IsCut text s → s.refusal ≡ None → load_refusal s.tokens ≡ Some place → IsReadAs text (Load place)
-  syntax : (text : List ℕ) (s : TokenStream) (back : List Token) → IsCut text s → s.refusal ≡ None → load_refusal s.tokens ≡ None
-      → ((u : RawUnit) → Derives (grammar_tokens s.tokens) u → ⊥) → SyntaxErrorBefore (grammar_tokens s.tokens) back
-      → IsReadAs text (Syntax (place_before (length text) back))
-  accepted : (text : List ℕ) (s : TokenStream) (u : RawUnit) → IsCut text s → s.refusal ≡ None → load_refusal s.tokens ≡ None
-      → Derives (grammar_tokens s.tokens) u → IsReadAs text (Accepted u)
+-- ---- what the compiler says of a text: three refusals, each looked at where the ones before it do not hold
+
+-- over the whole text, before all else
+abbrev pub IsRefusedByText : List ℕ → LexRefusal → Type 0
+IsRefusedByText text r = (s : TokenStream) × IsCut text s × (s.refusal ≡ Some r)
+
+abbrev pub IsRefusedByLoad : List ℕ → ℕ → Type 0
+IsRefusedByLoad text place = (ts : List Token) × HasTokens text ts × (load_refusal ts ≡ Some place)
+
+abbrev pub IsRefusedByGrammar : List ℕ → ℕ → Type 0
+IsRefusedByGrammar text place = (ts back : List Token) × HasTokens text ts × (load_refusal ts ≡ None) × SyntaxErrorBefore ts back × (place ≡ place_before (length text) back)
+
+abbrev pub IsAccepted : List ℕ → RawUnit → Type 0
+IsAccepted text u = (ts : List Token) × HasTokens text ts × (load_refusal ts ≡ None) × Derives ts u
+
+-- what is said of a text
+pub data Verdict : Type 0 where
+  accepted : RawUnit → Verdict
+  refused_text : LexRefusal → Verdict
+  refused_load : ℕ → Verdict
+  refused_syntax : ℕ → Verdict
+
+abbrev pub IsVerdict : List ℕ → Verdict → Type 0
+IsVerdict bytes (Verdict.accepted u) = IsAccepted bytes u
+IsVerdict bytes (Verdict.refused_text r) = IsRefusedByText bytes r
+IsVerdict bytes (Verdict.refused_load place) = IsRefusedByLoad bytes place
+IsVerdict bytes (Verdict.refused_syntax place) = IsRefusedByGrammar bytes place
+
+-- The law of reading: of each text one thing is said, and a text has at most one tree.
+pub record ReadsOneWay : Type 0 where
+  pub at_least_one : (text : List ℕ) → (v : Verdict) × IsVerdict text v
+  pub at_most_one : (text : List ℕ) (v w : Verdict) → IsVerdict text v → IsVerdict text w → v ≡ w
+  pub one_tree : (text : List ℕ) (u w : RawUnit) → Reads text u → Reads text w → u ≡ w

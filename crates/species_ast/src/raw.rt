@@ -10,7 +10,7 @@ use sqlite_items::{Boxed, Items};
 use std::marker::Model;
 
 /// A name where it stands in a program. Of an `#include` the text is the header with its brackets
-/// or quotes, and of a species line the text after the word.
+/// or quotes, and of a species line the text after the word; the place of both is that of the `#`.
 #[derive(Drop)]
 pub struct RawName<'a> {
     pub text: &'a [u8],
@@ -65,7 +65,8 @@ pub struct RawTarget<'a> {
     pub subs: Items<RawExpr<'a>>,
 }
 
-/// A statement. `place` is that of its first token after any pragma.
+/// A statement. `place` is that of its first token after any pragma, which of a `Declare` is the
+/// first word of its type.
 #[cycle(raw_stmt)]
 #[derive(Drop)]
 pub struct RawStmt<'a> {

@@ -11,3 +11,4 @@ pub mod Enough
 pub mod Examples
 pub mod Refusals
 pub mod Places
+pub mod Reading

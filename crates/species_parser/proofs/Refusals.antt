@@ -7,12 +7,11 @@ use Rattle.species_grammar.specs.Whole.{whole}
 use Rattle.species_ast.specs.Token.{Token}
 use Rattle.species_ast.specs.Spelling.{Spelling}
 use Rattle.species_ast.specs.Grammar.Words.{punctuator, keyword, name, number, include, species, parallel, atomic}
-use Rattle.species_ast.specs.Grammar.Units.{place_before}
+use Rattle.species_ast.specs.Grammar.Units.{SyntaxErrorBefore, place_before}
 use Rattle.species_ast.specs.declared.tree.Value.TheVariants as value
 use Rattle.species_ast.specs.declared.tree.Schedule.TheVariants as schedule
 use Rattle.species_parser.specs.Reading.{unit_at}
-use Rattle.species_parser.specs.Verdict.{IsWrongBefore}
-use Rattle.species_parser.proofs.Whole.{stuck_is_wrong}
+use Rattle.species_parser.proofs.Whole.{stuck_errs}
 
 abbrev at : ℕ → String → Spelling
 at p s = record { text = codes s; place = p }
@@ -22,10 +21,10 @@ digits p s v = number (at p s) (value.Int (pos v))
 
 -- in a text of so many bytes the tokens go wrong there
 abbrev WrongAt : ℕ → List Token → ℕ → Type 0
-WrongAt size ts place = (back : List Token) × IsWrongBefore ts back × (place_before size back ≡ place)
+WrongAt size ts place = (back : List Token) × SyntaxErrorBefore ts back × (place_before size back ≡ place)
 
 wrong : (n size : ℕ) (ts back : List Token) → length ts < n → whole (unit_at n) ts ≡ Answer.stuck back → WrongAt size ts (place_before size back)
-wrong n size ts back lt h = (back, stuck_is_wrong n ts back lt h, refl)
+wrong n size ts back lt h = (back, stuck_errs n ts back lt h, refl)
 
 --
 abbrev nothing_at_all_tokens : List Token

@@ -1,4 +1,3 @@
 pub mod Words
 pub mod Reading
-pub mod Verdict
 pub mod Places

@@ -3,7 +3,7 @@
 
 mod law;
 
-pub use law::{law_one_place, law_one_unit, law_places, law_read_or_wrong};
+pub use law::{law_grammar, law_places, law_reading};
 pub use species_ast::{
     RawArray, RawChange, RawExpr, RawItem, RawLocal, RawLoop, RawName, RawOp, RawStep, RawStmt,
     RawTarget, RawTerm, RawUnary, RawUnit, RawWhat,

@@ -25,7 +25,8 @@ pub data TranslationUnit : RawUnit → List Token → Type 0 where
       → TranslationUnit (record { items = []; function = f; body = body })
       (bs ++ (keyword p "void" ∷ name f ∷ punctuator q "(" ∷ (cs ++ (punctuator r ")" ∷ punctuator o "{" ∷ ts))))
 
--- The whole list of tokens derives the unit.
+-- The whole list of tokens derives the unit. It is the grammar's list, which has no definitions in it: with a `#define`
+-- among the tokens nothing is derived.
 abbrev pub Derives : List Token → RawUnit → Type 0
 Derives ts u = TranslationUnit u ts
 
@@ -33,9 +34,10 @@ Derives ts u = TranslationUnit u ts
 abbrev pub Viable : List Token → Type 0
 Viable ts = (more : List Token) × (u : RawUnit) × Derives (ts ++ more) u
 
--- A list that derives no unit goes wrong before `back`: derivations go on up to there, and none with the first token of
+-- The list derives no unit and goes wrong before `back`: derivations go on up to there, and none with the first token of
 -- `back`. Where `back` is empty it is the end of the program that comes too early.
 pub record SyntaxErrorBefore (ts back : List Token) : Type 0 where
+  pub underived : (u : RawUnit) → Derives ts u → ⊥
   pub front : List Token
   pub is : ts ≡ front ++ back
   pub viable : Viable front

@@ -1,0 +1,5 @@
+use Rattle.species_parser.proofs.Reading.{reads_one_way}
+use Rattle.species_parser.proofs.law.law_reading.Goals as goal
+
+pub returns : goal.returns
+returns c = reads_one_way
