@@ -12,4 +12,3 @@ pub mod Spelling
 pub mod Strip
 pub mod Text
 pub mod Token
-pub mod Reading

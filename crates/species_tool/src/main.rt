@@ -14,18 +14,23 @@ const MEMORY: u8 = 6;
 /// The longest word that is looked at. No command has a longer one.
 const LONGEST_WORD: usize = 256;
 
-/// The words of the command line. One that is no text, or too long for a word of any command, is
-/// handed on as an empty word, which is none of them either.
+/// The word that these bytes spell, or an empty one where they are no text.
+fn word(alloc: Global, bytes: &[u8]) -> Result<String, AllocError> {
+    String::from_str(alloc, std::str::from_utf8(bytes).unwrap_or(""))
+}
+
+/// The words of the command line. One that is too long for a word of any command is handed on as an
+/// empty word, which is none of them either.
 fn words<E: Env>(env: &E, alloc: Global) -> Result<Vec<String>, AllocError> {
     let mut words = Vec::new(alloc);
     let mut buffer = [0u8; LONGEST_WORD];
     for number in 0..usize::MAX {
-        let word = match env.arg(number, &mut buffer) {
-            Ok(length) => std::str::from_utf8(&buffer[..length]).unwrap_or(""),
-            Err(FillError::TooLong) => "",
+        let length = match env.arg(number, &mut buffer) {
+            Ok(length) => length,
+            Err(FillError::TooLong) => 0,
             Err(FillError::NotPresent) => break,
         };
-        words.push(String::from_str(alloc, word)?)?;
+        words.push(word(alloc, &buffer[..length])?)?;
     }
     Ok(words)
 }
