@@ -1,6 +1,5 @@
 pub mod AccessLaws
 pub mod Cutting
-mod Examples
 pub mod Examples
 pub mod FirstRefusal
 pub mod Folds
