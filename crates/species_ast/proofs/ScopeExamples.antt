@@ -356,7 +356,7 @@ program xs f ss = record {
 
 -- limits of ranges and references that nothing passes
 abbrev no_limits : NestLimits
-no_limits = record { hull = λ u. []; bound = λ u. []; references = λ most u. [] }
+no_limits = record { hull = λ u. []; bound = λ u. []; sizes = λ u. [] }
 
 abbrev answers : KnownProgram → Result Unit Finding → Type 0
 answers u a = resolved no_limits u.raw ≡ a

@@ -8,7 +8,9 @@
 --     Programs        what a whole program becomes
 --     Refusals        the refusals, and which of several is reported
 --     Conditions      the conditions under which a program is refused
+--     Written         what holds of each tree that is read
 --     WellMade        the units that passes take and give
+--     Law             the reported refusal is the first
 pub mod Forms
 pub mod Meanings
 pub mod Expressions
@@ -18,5 +20,6 @@ pub mod Statements
 pub mod Programs
 pub mod Refusals
 pub mod Conditions
+pub mod Written
 pub mod WellMade
 pub mod Law

@@ -10,7 +10,7 @@ use Rattle.species_ast.specs.declared.tree.Unit.{Unit}
 use Rattle.species_ast.specs.declared.raw.RawUnit.{RawUnit}
 use Rattle.species_ast.specs.Scope.Forms.{form_of, iterators_in}
 use Rattle.species_ast.specs.Scope.Meanings.{Meaning, is_among, Role, Declared, Taken, Set, Iterates, InHeader, Occurrence}
-use Rattle.species_ast.specs.Scope.Limits.{most_loops, most_dimensions, most_step, most_references, has_lawful_sizes, goes, NestLimits}
+use Rattle.species_ast.specs.Scope.Limits.{most_loops, most_dimensions, most_step, most_references, has_lawful_sizes, goes, NestLimits, larger_than}
 use Rattle.species_ast.specs.Scope.Nests.{front_of, is_bad_mark}
 use Rattle.species_ast.specs.Scope.Programs.{Program, iterators_of, program_of}
 use Rattle.species_ast.specs.Scope.Refusals.{Limit, Refusal, Finding, first_of_groups, refused_at, places_where}
@@ -148,7 +148,7 @@ refused_limits limits p =
     ++ refused_at Refusal.BadMark (bad_mark p))))))
 
 abbrev pub refused_references : NestLimits → Program → List Finding
-refused_references limits p = refused_at (Refusal.LimitPassed Limit.References) (limits.references most_references p.unit)
+refused_references limits p = refused_at (Refusal.LimitPassed Limit.References) (larger_than most_references limits p.unit)
 
 -- ---- the answer
 

@@ -1,11 +1,12 @@
 -- The limits of programs, and how a step has to go.
-use Rattle.std.specs.Prelude.{ℕ, Bool, ◌&&◌, nat_le, List, ℤ, pos, int_lt}
+use Rattle.std.specs.Prelude.{◌≡◌, ℕ, Bool, ◌&&◌, nat_le, nat_lt, List, [], ℤ, pos, int_lt}
 use Rattle.std.specs.List.{list_all}
 use Rattle.species_ast.specs.declared.tree.Test.{Test}
 use Rattle.species_ast.specs.declared.tree.Test.TheVariants as test
 use Rattle.species_ast.specs.declared.tree.Array.{Array}
 use Rattle.species_ast.specs.declared.tree.Unit.{Unit}
 use Rattle.species_ast.specs.Evaluation.{product}
+use Rattle.species_ast.specs.Scope.Refusals.{places_where}
 
 -- loops inside one another
 abbrev pub most_loops : ℕ
@@ -40,10 +41,23 @@ goes test.Le step = int_lt (pos 0) step
 goes test.Gt step = int_lt step (pos 0)
 goes test.Ge step = int_lt step (pos 0)
 
--- The limits that speak of the values which bounds take, and of array references: where a unit passes each of them, by the
--- places of its loops; of the last the outermost loops that have more than so many references. They are defined with ranges
--- and references, and are asked of a unit of which no name, bound or step is refused.
+-- An outermost loop: the place of its `for`, and how many array references it has.
+pub record NestSize : Type 0 where
+  pub place : ℕ
+  pub references : ℕ
+
+-- What the limits speak of that are defined with ranges and references: the places of the loops of a unit whose bounds pass the
+-- limits Hull and Bound, and the sizes of its outermost loops. They are asked of a unit of which no name, bound or step is
+-- refused.
 pub record NestLimits : Type 0 where
   pub hull : Unit → List ℕ
   pub bound : Unit → List ℕ
-  pub references : ℕ → Unit → List ℕ
+  pub sizes : Unit → List NestSize
+
+-- the outermost loops of a unit that have more than so many references
+abbrev pub larger_than : ℕ → NestLimits → Unit → List ℕ
+larger_than most limits u = places_where (λ n. nat_lt most n.references) (λ n. n.place) (limits.sizes u)
+
+-- A unit has the size of one that is read. A pass may make larger ones.
+abbrev pub HasReadSize : NestLimits → Unit → Type 0
+HasReadSize limits u = larger_than most_references limits u ≡ []

@@ -217,7 +217,6 @@ abbrev pub iterator_role : Bool → Role
 iterator_role true = Declared
 iterator_role false = Iterates
 
--- what a loop becomes, from its header and its body
 -- A loop's pragmas and header, and its body.
 pub record Parts : Type 0 where
   pub line : Option Spelling

@@ -1,4 +1,5 @@
--- Well made units: those that passes take and give. What is read from a lawful program is one.
+-- Well made units: those that passes take and give. A lawful program whose parallel marks have depths becomes one, which also
+-- has the size of one that is read.
 use Rattle.std.specs.Prelude.{◌≡◌, ℕ, zero, suc, ◌^◌, ◌<◌, Bool, true, false, ◌&&◌, ◌||◌, not, nat_eq, nat_lt, nat_le, List, [], ◌∷◌, ◌++◌, map, length, unsigned_abs, Option, Some, None, option_map, unwrap_or, is_some, slice_get, IsTrue}
 use Rattle.std.specs.List.{list_all, filter}
 use Rattle.species_ast.specs.declared.tree.Array.{Array}
@@ -12,7 +13,7 @@ use Rattle.species_ast.specs.declared.tree.Unit.{Unit}
 use Rattle.species_ast.specs.Marks.{all_true}
 use Rattle.species_ast.specs.Run.{locals_in}
 use Rattle.species_ast.specs.Scope.Forms.{form_of, iterators_in}
-use Rattle.species_ast.specs.Scope.Limits.{most_loops, most_dimensions, most_step, most_references_made, has_lawful_sizes, goes, NestLimits}
+use Rattle.species_ast.specs.Scope.Limits.{most_loops, most_dimensions, most_step, most_references_made, has_lawful_sizes, goes, NestLimits, larger_than}
 use Rattle.species_ast.specs.Scope.Meanings.{is_among}
 use Rattle.species_ast.specs.Scope.Nests.{Bounds, is_parallel, is_bad_mark}
 
@@ -140,4 +141,4 @@ pub record IsWellMade (limits : NestLimits) (u : Unit) : Type 0 where
   pub body : IsTrue (list_holds (map made u.body) (outermost u))
   pub hull : limits.hull u ≡ []
   pub bound : limits.bound u ≡ []
-  pub references : limits.references most_references_made u ≡ []
+  pub references : larger_than most_references_made limits u ≡ []
