@@ -1,19 +1,19 @@
 -- Laws of access trees: how their runs, accesses and actions compose, and what ties the actions to the run.
 use Rattle.std.proofs.Common.{◌≡◌, refl, ap, sym, ◌∙◌, ℕ, List, [], ◌∷◌, ◌++◌, map, Option, Some, None}
 use Rattle.species_ast.specs.declared.tree.Value.{Value}
-use Rattle.species_ast.specs.Accesses.{Cells, cell, changed, added, Site, Tree, Ret, Stop, Read, Write, Add, then_do, Outcome, Done, Undefined, run, Access, access, Reads, Writes, Adds, accesses, Action, ReadOf, WriteOf, AddOf, End, Fault, acts, action_of, answers_in, last_action}
+use Rattle.species_ast.specs.Accesses.{Cells, cell, changed, added, Site, Tree, Ret, Stop, Read, Write, Add, then_do, Outcome, Ended, Stopped, run, Access, access, Reads, Writes, Adds, accesses, Action, ReadOf, WriteOf, AddOf, Done, Fault, acts, action_of, answers_in, last_action}
 
 -- ---- one after another
 
 -- what a run ends in, gone on with
 abbrev pub go_on : {X Y : Type 0} → Outcome X → (X → Cells → Outcome Y) → Outcome Y
-go_on (Done x m) next = next x m
-go_on (Undefined why place) next = Undefined why place
+go_on (Ended x m) next = next x m
+go_on (Stopped why place) next = Stopped why place
 
 -- what follows the accesses of a run that has this outcome
 abbrev pub accesses_on : {X : Type 0} → Outcome X → (X → Cells → List Access) → List Access
-accesses_on (Done x m) next = next x m
-accesses_on (Undefined why place) next = []
+accesses_on (Ended x m) next = next x m
+accesses_on (Stopped why place) next = []
 
 pub then_do-assoc : {X Y Z : Type 0} (t : Tree X) (f : X → Tree Y) (g : Y → Tree Z)
     → then_do (then_do t f) g ≡ then_do t (λ x. then_do (f x) g)
@@ -129,8 +129,8 @@ acts-bare (Add s e v more) answers = ap (λ l. AddOf e v ∷ l) (acts-bare more 
 
 -- nor does what a run ends in, but for the place where it is undefined
 abbrev pub without_place : {X : Type 0} → Outcome X → Outcome X
-without_place (Done x m) = Done x m
-without_place (Undefined why place) = Undefined why 0
+without_place (Ended x m) = Ended x m
+without_place (Stopped why place) = Stopped why 0
 
 pub run-bare : {X : Type 0} (t : Tree X) (m : Cells) → run (bare t) m ≡ without_place (run t m)
 run-bare (Ret x) m = refl

@@ -139,3 +139,7 @@ cuts_one_way = record {
   at_least_one = λ text. gives (length text) 0 true [] text (omega arith);
   at_most_one = λ text s u d e. same (length text) 0 true [] text s d (omega arith) ∙ sym (same (length text) 0 true [] text u e (omega arith));
 }
+
+-- the bound does not matter where it is large enough
+pub any_bound : (m k place : ℕ) (is_head : Bool) (ds : List Definition) (bytes : List ℕ) → length bytes ≤ m → length bytes ≤ k → cut_at m place is_head ds bytes ≡ cut_at k place is_head ds bytes
+any_bound m k place is_head ds bytes a b = same k place is_head ds bytes (cut_at m place is_head ds bytes) (gives m place is_head ds bytes a) b

@@ -1,9 +1,10 @@
 pub mod AccessLaws
 pub mod Cutting
-mod Examples
+pub mod Examples
 pub mod Folds
 pub mod Grammar
 pub mod Induction
-mod OperatorExamples
 pub mod RunLaws
+mod ScopeExamples
+pub mod ScopeLaws
 pub mod StripLaws

@@ -43,8 +43,9 @@ added v c = in_kind (kind_of c) (reduced (kind_of c) (number_of c +ℤ number_of
 -- ---- the tree
 
 -- Where in the text an access stands, and when: the statement, by its number among the statements directly inside each
--- statement around it, from the outermost inward; its place; the element's number among the elements written in that
--- statement, in text order; the iterators in force, by level; and the indices that the element's subscripts gave.
+-- statement around it, from the outermost inward; its place; the number of the element, where the elements written in the
+-- statement are numbered from 0 in the order in which their indices are tested (the read and the write of a `+=` have one
+-- number); the iterators in force, by level; and the indices that the element's subscripts gave.
 pub record Site : Type 0 where
   pub statement : List ℕ
   pub place : ℕ
@@ -74,14 +75,14 @@ then_do (Add s e v more) next = Add s e v (then_do more next)
 
 -- ---- the run
 
--- what a run ends in: what was computed and the arrays, or the cause and the place of its statement
+-- what a run ends in: what was computed and the arrays; or it is undefined, for this cause, in the statement at this place
 pub data Outcome (X : Type 0) : Type 0 where
-  Done : X → Cells → Outcome X
-  Undefined : Cause → ℕ → Outcome X
+  Ended : X → Cells → Outcome X
+  Stopped : Cause → ℕ → Outcome X
 
 abbrev pub run : {X : Type 0} → Tree X → Cells → Outcome X
-run (Ret x) m = Done x m
-run (Stop s why) m = Undefined why s.place
+run (Ret x) m = Ended x m
+run (Stop s why) m = Stopped why s.place
 run (Read s e more) m = run (more (cell m e)) m
 run (Write s e v more) m = run more (changed m e (λ c. v))
 run (Add s e v more) m = run more (changed m e (added v))
@@ -115,12 +116,12 @@ pub data Action : Type 0 where
   ReadOf : Element → Action
   WriteOf : Element → Value → Action
   AddOf : Element → Value → Action
-  End : Action
+  Done : Action
   Fault : Action
 
 -- the actions where the reads are answered in order: to the first read that has no answer left, to the end, or to a fault
 abbrev pub acts : {X : Type 0} → Tree X → List Value → List Action
-acts (Ret x) answers = End ∷ []
+acts (Ret x) answers = Done ∷ []
 acts (Stop s why) answers = Fault ∷ []
 acts (Read s e more) [] = ReadOf e ∷ []
 acts (Read s e more) (v ∷ answers) = ReadOf e ∷ acts (more v) answers
@@ -148,5 +149,5 @@ answers_in (a ∷ rest) = answer_of a.direction a.value (answers_in rest)
 
 -- the last action of a piece of program whose run has this outcome
 abbrev pub last_action : {X : Type 0} → Outcome X → Action
-last_action (Done x m) = End
-last_action (Undefined why place) = Fault
+last_action (Ended x m) = Done
+last_action (Stopped why place) = Fault

@@ -6,6 +6,7 @@ pub mod Marks
 pub mod Names
 pub mod Operators
 pub mod Run
+pub mod Scope
 pub mod Spelling
 pub mod Strip
 pub mod Text

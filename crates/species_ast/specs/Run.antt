@@ -1,6 +1,6 @@
 -- What statements do, and so programs: each is a tree of accesses, put together from the trees of its parts in the order of
 -- the text (C17 6.8). Parallel marks and species lines mean nothing here.
-use Rattle.std.specs.Prelude.{ℕ, zero, suc, ◌+◌, ◌/◌, List, [], ◌∷◌, ◌++◌, map, flat_map, length, Bool, true, false, not, nat_eq, if◌then◌else◌, ℤ, pos, ◌+ℤ◌, ◌-ℤ◌, neg_ℤ, Option, Some, None}
+use Rattle.std.specs.Prelude.{◌≡◌, replicate, All, ℕ, zero, suc, ◌+◌, ◌/◌, List, [], ◌∷◌, ◌++◌, map, flat_map, length, Bool, true, false, not, nat_eq, if◌then◌else◌, ℤ, pos, ◌+ℤ◌, ◌-ℤ◌, neg_ℤ, Option, Some, None}
 use Rattle.std.specs.List.{list_any}
 use Rattle.species_ast.specs.declared.tree.Kind.{Kind}
 use Rattle.species_ast.specs.declared.tree.Kind.TheVariants as kind
@@ -12,10 +12,11 @@ use Rattle.species_ast.specs.declared.tree.Expr.{Expr}
 use Rattle.species_ast.specs.declared.tree.Stmt.{Stmt, fold-Stmt}
 use Rattle.species_ast.specs.declared.tree.Loop.{Loop, fold-Loop}
 use Rattle.species_ast.specs.declared.tree.Stmt.TheOpen.{Stmt-F, Loop-F}
+use Rattle.species_ast.specs.declared.tree.Array.{Array}
 use Rattle.species_ast.specs.declared.tree.Unit.{Unit}
-use Rattle.species_ast.specs.Operators.{number_of, is_signed, reduced, converted, is_true, binary_of}
+use Rattle.species_ast.specs.Operators.{kind_of, in_kind, IsValue, number_of, is_signed, reduced, converted, is_true, binary_of}
 use Rattle.species_ast.specs.Accesses.{Cells, Forbidden, Tree, Ret, Stop, Read, Write, Add, then_do, Outcome, run, Access, accesses, Action, acts}
-use Rattle.species_ast.specs.Evaluation.{Frame, Context, Spot, array_kind, local_kind, local_of, with_local, site_at, answered, element_at, Sense, elements_in, target_of, sense}
+use Rattle.species_ast.specs.Evaluation.{product, Frame, Context, Spot, array_kind, local_kind, local_of, with_local, site_at, answered, element_at, Sense, elements_in, target_of, sense}
 
 -- ---- statements
 
@@ -41,7 +42,8 @@ abbrev pub restored : List ℕ → Frame → Frame → Frame
 restored [] f g = g
 restored (x ∷ xs) f g = restored xs f (with_local g x (local_of f x))
 
--- a list that is a scope: at its end the locals that it declares are gone, and each is as it was before (C17 6.2.1, 6.2.4)
+-- a list that is a scope: at its end the locals that it declares are as they were before it (C17 6.2.1, 6.2.4); no program
+-- that uses its locals in their scopes sees this, and a turn that sets no local of the outside leaves the frame as it was
 abbrev pub scope_of : List Step → List ℕ → ℕ → Frame → Tree Frame
 scope_of ss at k f = then_do (list_of ss at k f) (λ g. Ret (restored (declared_in ss) f g))
 
@@ -113,7 +115,7 @@ addition w a false n value s is f =
     Write (site_at s n f is) (element_at w a is) (converted (array_kind w a) sum) (Ret f))))
 addition w a true n value s is f =
     then_do (value.does s (suc n) f) (λ v.
-    if w.may_add (array_kind w a) then Add (site_at s n f is) (element_at w a is) (converted kind.Unsigned v) (Ret f) else Stop (site_at s n f is) Forbidden)
+    if w.may_add (array_kind w a) then Add (site_at s n f is) (element_at w a is) (converted (array_kind w a) v) (Ret f) else Stop (site_at s n f is) Forbidden)
 
 abbrev pub adding : Context → ℕ → Bool → List Sense → Sense → Spot → Frame → Tree Frame
 adding w a atomic subs value s f = then_do (target_of w a subs s 0 f) (λ is. addition w a atomic (elements_in subs) value s is f)
@@ -177,6 +179,17 @@ first_frame u = record { iters = []; locals = map (λ l. None) u.locals }
 abbrev pub program_of : Unit → Tree Frame
 program_of u = does_list (source_of u) u.body [] 0 (first_frame u)
 
+-- the arrays of these declarations with all elements 0, as those that the data does not name begin
+abbrev pub zeros_of : List Array → Cells
+zeros_of arrays = map (λ a. replicate (product a.dims) (in_kind a.kind (pos 0))) arrays
+
+-- one row of values for each array, as long as the array has elements, of the array's kind
+abbrev pub AreArraysOf : List Array → Cells → Type 0
+AreArraysOf [] [] = Prim.Unit {0}
+AreArraysOf [] (row ∷ rows) = ⊥
+AreArraysOf (a ∷ arrays) [] = ⊥
+AreArraysOf (a ∷ arrays) (row ∷ rows) = (length row ≡ product a.dims) × All (λ v. (kind_of v ≡ a.kind) × IsValue v) row × AreArraysOf arrays rows
+
 -- the run of a program from given arrays, and its accesses
 abbrev pub source_run : Unit → Cells → Outcome Frame
 source_run u m = run (program_of u) m
@@ -194,8 +207,11 @@ locals_at (Stmt-F.For l) = l
 locals_at (Stmt-F.Block body) = flat_map (λ xs. xs) body
 locals_at s = []
 
+abbrev pub locals_of : Stmt → List ℕ
+locals_of = fold-Stmt (List ℕ) (List ℕ) locals_at (λ l. flat_map (λ xs. xs) l.body)
+
 abbrev pub locals_in : List Stmt → List ℕ
-locals_in ss = flat_map (fold-Stmt (List ℕ) (List ℕ) locals_at (λ l. flat_map (λ xs. xs) l.body)) ss
+locals_in ss = flat_map (λ xs. xs) (map locals_of ss)
 
 -- an iteration sets only locals that its body declares, and adds atomically only to arrays of unsigned kind
 abbrev pub iteration_in : Context → List Stmt → Context

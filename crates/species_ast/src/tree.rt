@@ -87,7 +87,8 @@ pub enum Expr {
     Cast(Kind, Boxed<Expr>),
 }
 
-/// A statement. `place` is the byte offset of its first token in the program, after any pragma.
+/// A statement. `place` is the byte offset of its first token in the program, after any pragma; that
+/// of a `Declare` is the one of its name.
 #[cycle(stmt)]
 #[derive(Drop)]
 pub enum Stmt {

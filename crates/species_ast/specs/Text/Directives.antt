@@ -3,8 +3,8 @@ use Rattle.std.specs.Prelude.{ℕ, ◌+◌, Bool, false, not, ◌||◌, ◌&&◌
 use Rattle.species_ast.specs.Text.Characters.{is_letter, is_digit, is_word_byte, begins, run_of}
 use Rattle.species_ast.specs.Text.Comments.{gap_len, content_len}
 use Rattle.species_ast.specs.Text.Words.{is_keyword}
-use Rattle.species_ast.specs.Text.Parts.{Part, parts_of, parts_end, offset_of}
-use Rattle.species_ast.specs.Text.Pragmas.{is, openmp_of}
+use Rattle.species_ast.specs.Text.Parts.{Part, is, is_nothing, parts_of, parts_end, offset_of}
+use Rattle.species_ast.specs.Text.Pragmas.{openmp_of}
 use Rattle.species_ast.specs.declared.token.TokenKind.{TokenKind}
 use Rattle.species_ast.specs.declared.token.TokenKind.TheVariants as kind
 use Rattle.species_ast.specs.declared.token.LexRefusal.{LexRefusal}
@@ -58,12 +58,19 @@ abbrev pub is_first_in : (ℕ → Bool) → List ℕ → Bool
 is_first_in is_in [] = false
 is_first_in is_in (b ∷ bytes) = is_in b
 
--- what stands behind the word `define`: a name that is no keyword, a number run, and nothing more
+-- a name that is no keyword
+abbrev pub is_name : Part → Bool
+is_name p = is_first_in is_letter p.text && not (is_keyword p.text)
+
+abbrev pub define_as : Part → List Part → Form
+define_as name [] = formless
+define_as name (run ∷ ps) =
+    if is_name name && is_first_in is_digit run.text && is_nothing ps then Macro name.text run else formless
+
+-- what stands behind the word `define`: a name, a number run, and nothing more
 abbrev pub define_of : List Part → Form
-define_of (name ∷ run ∷ []) =
-    if is_first_in is_letter name.text && not (is_keyword name.text) && is_first_in is_digit run.text
-    then Macro name.text run else formless
-define_of _ = formless
+define_of [] = formless
+define_of (name ∷ ps) = define_as name ps
 
 -- the word `endkernel` that no `[` follows
 abbrev pub is_end : Part → List Part → Bool

@@ -1,5 +1,5 @@
 -- The parts of a directive's content: words, number runs, and single other bytes (C17 6.4, preprocessing tokens).
-use Rattle.std.specs.Prelude.{ℕ, zero, suc, ◌+◌, Bool, if◌then◌else◌, List, [], ◌∷◌, length, take, drop, bytes_eq, Option, Some, None}
+use Rattle.std.specs.Prelude.{ℕ, zero, suc, ◌+◌, Bool, true, false, if◌then◌else◌, List, [], ◌∷◌, length, take, drop, bytes_eq, Option, Some, None}
 use Rattle.species_ast.specs.Text.Characters.{is_letter, is_digit, is_word_byte, run_of}
 use Rattle.species_ast.specs.Text.Comments.{gap_len}
 use Rattle.species_ast.specs.Text.Numbers.{run_more}
@@ -37,18 +37,21 @@ abbrev pub parts_end : ℕ → List Part → ℕ
 parts_end before [] = before
 parts_end before (p ∷ ps) = parts_end (p.at + length p.text) ps
 
+-- a part is this text
+abbrev pub is : Part → List ℕ → Bool
+is p text = bytes_eq p.text text
+
+abbrev pub is_nothing : List Part → Bool
+is_nothing [] = true
+is_nothing (p ∷ ps) = false
+
 -- what stands behind these words, if the list begins with them
 abbrev pub after_words : List (List ℕ) → List Part → Option (List Part)
 after_words [] ps = Some ps
 after_words (w ∷ ws) [] = None
-after_words (w ∷ ws) (p ∷ ps) = if bytes_eq p.text w then after_words ws ps else None
-
--- the first part is this text
-abbrev pub starts : List ℕ → List Part → Bool
-starts text [] = bytes_eq [] text
-starts text (p ∷ ps) = bytes_eq p.text text
+after_words (w ∷ ws) (p ∷ ps) = if is p w then after_words ws ps else None
 
 -- the offset of the first part that is this text
 abbrev pub offset_of : List ℕ → List Part → Option ℕ
 offset_of text [] = None
-offset_of text (p ∷ ps) = if bytes_eq p.text text then Some p.at else offset_of text ps
+offset_of text (p ∷ ps) = if is p text then Some p.at else offset_of text ps

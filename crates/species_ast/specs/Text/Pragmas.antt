@@ -1,7 +1,7 @@
 -- The pragmas of OpenMP that are read (OpenMP 4.5, 2.7.1 and 2.13.6), by the parts behind the word `pragma`.
-use Rattle.std.specs.Prelude.{ℕ, Bool, not, ◌&&◌, nat_le, if◌then◌else◌, List, [], ◌∷◌, codes, bytes_eq, pos, Option, Some, None, option_map, option_and_then, unwrap_or}
+use Rattle.std.specs.Prelude.{ℕ, Bool, false, not, ◌&&◌, nat_le, if◌then◌else◌, List, [], ◌∷◌, codes, pos, Option, Some, None, option_map, option_and_then, unwrap_or}
 use Rattle.species_ast.specs.Text.Numbers.{literal_of}
-use Rattle.species_ast.specs.Text.Parts.{Part, after_words}
+use Rattle.species_ast.specs.Text.Parts.{Part, is, is_nothing, after_words}
 use Rattle.species_ast.specs.declared.tree.Value.{Value}
 use Rattle.species_ast.specs.declared.tree.Value.TheVariants as value
 use Rattle.species_ast.specs.declared.tree.Schedule.{Schedule}
@@ -13,10 +13,6 @@ use Rattle.species_ast.specs.declared.token.TokenKind.TheVariants as kind
 abbrev pub int_of : Option Value → ℕ
 int_of (Some (value.Int (pos n))) = n
 int_of _ = 0
-
--- a part is this text
-abbrev pub is : Part → List ℕ → Bool
-is p text = bytes_eq p.text text
 
 -- `static)` and `guided)`
 abbrev pub plain_schedule : Part → Option Schedule
@@ -33,42 +29,53 @@ schedule_by word n =
     else if is word (codes "dynamic") then Some (schedule.DynamicBy n)
     else None
 
+-- `)` and nothing more
+abbrev pub is_closed : List Part → Bool
+is_closed [] = false
+is_closed (p ∷ ps) = is p (codes ")") && is_nothing ps
+
+-- what stands behind `static,` or `dynamic,`
+abbrev pub chunk_of : Part → List Part → Option Schedule
+chunk_of word [] = None
+chunk_of word (n ∷ ps) = if is_closed ps then schedule_by word (int_of (literal_of n.text)) else None
+
 -- what stands behind `schedule(`, up to the end of the line
-abbrev pub in_brackets : Option (List Part) → Option Schedule
-in_brackets (Some (word ∷ close ∷ [])) = if is close (codes ")") then plain_schedule word else None
-in_brackets (Some (word ∷ comma ∷ n ∷ close ∷ [])) =
-    if is comma (codes ",") && is close (codes ")") then schedule_by word (int_of (literal_of n.text)) else None
-in_brackets _ = None
+abbrev pub in_brackets : List Part → Option Schedule
+in_brackets [] = None
+in_brackets (word ∷ ps) =
+    if is_closed ps then plain_schedule word
+    else option_and_then (chunk_of word) (after_words (codes "," ∷ []) ps)
 
 -- the schedule that these parts are, `static` where there are none
 abbrev pub schedule_of : List Part → Option Schedule
 schedule_of [] = Some schedule.Static
-schedule_of (p ∷ ps) = in_brackets (after_words (codes "schedule" ∷ codes "(" ∷ []) (p ∷ ps))
+schedule_of (p ∷ ps) = option_and_then in_brackets (after_words (codes "schedule" ∷ codes "(" ∷ []) (p ∷ ps))
 
--- what stands behind `collapse(`: a number from 2 to 8 and `)`; the number, and the parts behind
-abbrev pub depth_in : Option (List Part) → Option (ℕ × List Part)
-depth_in (Some (n ∷ close ∷ ps)) =
-    let depth = int_of (literal_of n.text) in
-    if nat_le 2 depth && nat_le depth 8 && is close (codes ")") then Some (depth, ps) else None
-depth_in _ = None
+-- a depth from 2 to 8, and the parts behind it
+abbrev pub deep : ℕ → List Part → Option (ℕ × List Part)
+deep depth ps = if nat_le 2 depth && nat_le depth 8 then Some (depth, ps) else None
+
+-- what stands behind `collapse(`: a depth and `)`
+abbrev pub depth_in : List Part → Option (ℕ × List Part)
+depth_in [] = None
+depth_in (n ∷ ps) = option_and_then (deep (int_of (literal_of n.text))) (after_words (codes ")" ∷ []) ps)
 
 -- the depth that `collapse` says, or 1, and the parts behind it
 abbrev pub depth_of : List Part → ℕ × List Part
-depth_of ps = unwrap_or (depth_in (after_words (codes "collapse" ∷ codes "(" ∷ []) ps)) (1, ps)
+depth_of ps = unwrap_or (option_and_then depth_in (after_words (codes "collapse" ∷ codes "(" ∷ []) ps)) (1, ps)
 
 -- what stands behind `omp parallel for`
 abbrev pub parallel_of : List Part → Option TokenKind
 parallel_of ps = option_map (λ s. kind.Parallel (depth_of ps).0 s) (schedule_of (depth_of ps).1)
 
 abbrev pub atomic_of : List Part → Option TokenKind
-atomic_of [] = Some kind.Atomic
-atomic_of (p ∷ ps) = None
+atomic_of ps = if is_nothing ps then Some kind.Atomic else None
 
--- a pragma of OpenMP that is read, by the parts behind `pragma`
 abbrev pub or_else : {X : Type 0} → Option X → Option X → Option X
 or_else (Some x) other = Some x
 or_else None other = other
 
+-- a pragma of OpenMP that is read, by the parts behind `pragma`
 unfoldable pub openmp_of : List Part → Option TokenKind
 openmp_of ps =
     or_else (option_and_then parallel_of (after_words (codes "omp" ∷ codes "parallel" ∷ codes "for" ∷ []) ps))

@@ -1,0 +1,63 @@
+#!/usr/bin/env bash
+# How time and memory of `species arcs` grow with its input, beside `cat` and `gcc -fsyntax-only` on
+# the same bytes. Prints one line for each input: its size, seconds and peak memory of each, ratios.
+# Usage: bench/scale.sh [FOLDER for the inputs, else a temporary one]
+set -eu
+top="$(cd "$(dirname "${BASH_SOURCE[0]}")/.." && pwd)"
+"$top/species" arcs < "$top/examples/copy.c" > /dev/null
+program="$top/crates/species_tool/out/species_tool"
+folder="${1:-$(mktemp -d)}"
+mkdir -p "$folder"
+
+# The largest program that is accepted: many arrays with long names, 512 elements.
+python3 - "$folder" <<'PY'
+import sys
+folder = sys.argv[1]
+limit = 4194304
+
+def program(size):
+    """A one-loop program of nearly this many bytes: arrays fill it, 512 elements stand in its loop."""
+    loop = "void kernel(void) {\n    for (int i = 1073741823; i < 1073741824; i++) {\n"
+    body = ""
+    for k in range(8):
+        body += "        a0[i - 1073741823] = " + " + ".join(["1073741824 * a%d[i - 1073741823]" % j for j in range(63)]) + ";\n"
+    end = "    }\n}\n"
+    front, used, number = [], len(loop) + len(body) + len(end), 0
+    while True:
+        line = "int a%d[16777216];\n" % number
+        if used + len(line) > size and number >= 63:
+            break
+        front.append(line)
+        used += len(line)
+        number += 1
+    return "".join(front) + loop + body + end
+
+for mib in (1, 2, 4):
+    text = program(mib * 1048576)
+    assert len(text) <= limit
+    open(f"{folder}/accepted-{mib}.c", "w").write(text)
+    # refused at its end: the last line feed is a blank
+    open(f"{folder}/refused-{mib}.c", "w").write(text[:-1] + " ")
+PY
+
+measure() { # NAME COMMAND..: seconds and KiB
+    local name="$1"; shift
+    python3 - "$@" <<'PY'
+import resource, subprocess, sys, time
+begin = time.time()
+subprocess.run(sys.argv[1:-1], stdin=open(sys.argv[-1]), stdout=subprocess.DEVNULL, stderr=subprocess.DEVNULL)
+print("%.3f %d" % (time.time() - begin, resource.getrusage(resource.RUSAGE_CHILDREN).ru_maxrss))
+PY
+}
+
+printf '%-14s %9s | %8s %8s | %8s %8s | %8s %8s | %s\n' input bytes species KiB cat KiB gcc KiB 'species/gcc'
+for kind in accepted refused; do
+    for mib in 1 2 4; do
+        file="$folder/$kind-$mib.c"
+        read -r s sm < <(measure species "$program" arcs "$file")
+        read -r c cm < <(measure cat cat "$file")
+        read -r g gm < <(measure gcc gcc -fsyntax-only -x c - "$file")
+        printf '%-14s %9d | %8s %8s | %8s %8s | %8s %8s | %s\n' "$kind-$mib" "$(stat -c %s "$file")" \
+            "$s" "$sm" "$c" "$cm" "$g" "$gm" "$(python3 -c "print('%.2f' % ($s / max($g, 0.001)))")"
+    done
+done

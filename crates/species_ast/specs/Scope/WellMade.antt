@@ -1,0 +1,143 @@
+-- Well made units: those that passes take and give. What is read from a lawful program is one.
+use Rattle.std.specs.Prelude.{◌≡◌, ℕ, zero, suc, ◌^◌, ◌<◌, Bool, true, false, ◌&&◌, ◌||◌, not, nat_eq, nat_lt, nat_le, List, [], ◌∷◌, ◌++◌, map, length, unsigned_abs, Option, Some, None, option_map, unwrap_or, is_some, slice_get, IsTrue}
+use Rattle.std.specs.List.{list_all, filter}
+use Rattle.species_ast.specs.declared.tree.Array.{Array}
+use Rattle.species_ast.specs.declared.tree.Mark.{Mark}
+use Rattle.species_ast.specs.declared.tree.Mark.TheVariants.{Plain, Parallel}
+use Rattle.species_ast.specs.declared.tree.Expr.{Expr, fold-Expr}
+use Rattle.species_ast.specs.declared.tree.Expr.TheOpen.{Expr-F}
+use Rattle.species_ast.specs.declared.tree.Stmt.{Stmt, fold-Stmt}
+use Rattle.species_ast.specs.declared.tree.Stmt.TheOpen.{Stmt-F, Loop-F}
+use Rattle.species_ast.specs.declared.tree.Unit.{Unit}
+use Rattle.species_ast.specs.Marks.{all_true}
+use Rattle.species_ast.specs.Run.{locals_in}
+use Rattle.species_ast.specs.Scope.Forms.{form_of, iterators_in}
+use Rattle.species_ast.specs.Scope.Limits.{most_loops, most_dimensions, most_step, most_references_made, has_lawful_sizes, goes, NestLimits}
+use Rattle.species_ast.specs.Scope.Meanings.{is_among}
+use Rattle.species_ast.specs.Scope.Nests.{Bounds, is_parallel, is_bad_mark}
+
+-- What stands around a place in a unit: its arrays, the locals that are declared, how many loops, and whether one of them has
+-- a parallel mark.
+pub record Around : Type 0 where
+  pub arrays : List Array
+  pub locals : List ℕ
+  pub level : ℕ
+  pub in_nest : Bool
+
+-- ---- expressions
+
+-- there is an array of this number, with so many dimensions
+abbrev pub is_array : Around → ℕ → ℕ → Bool
+is_array w a dimensions = unwrap_or (option_map (λ x. nat_eq (length x.dims) dimensions) (slice_get w.arrays a)) false
+
+abbrev pub is_made_at : Around → Expr-F Bool → Bool
+is_made_at w (Expr-F.Literal v) = true
+is_made_at w (Expr-F.Iter level) = nat_lt level w.level
+is_made_at w (Expr-F.Local x) = is_among w.locals x
+is_made_at w (Expr-F.Elem a subs) = is_array w a (length subs) && all_true subs
+is_made_at w (Expr-F.Unary op a) = a
+is_made_at w (Expr-F.Binary op a b) = a && b
+is_made_at w (Expr-F.And a b) = a && b
+is_made_at w (Expr-F.Or a b) = a && b
+is_made_at w (Expr-F.Cond c a b) = c && (a && b)
+is_made_at w (Expr-F.Cast k a) = a
+
+-- each array, local and iterator that an expression names is there, and each element has as many subscripts as its array has
+-- dimensions
+abbrev pub is_made : Around → Expr → Bool
+is_made w = fold-Expr Bool (is_made_at w)
+
+abbrev pub is_made_target : Around → ℕ → List Expr → Bool
+is_made_target w a subs = is_array w a (length subs) && list_all (is_made w) subs
+
+-- a bound is affine, and names only iterators of loops around its own
+abbrev pub is_made_bound : ℕ → Expr → Bool
+is_made_bound level e = is_some (form_of e) && list_all (λ i. nat_lt i level) (iterators_in e)
+
+-- ---- statements
+
+-- A statement: the locals that it declares for those behind it, the loops that are perfectly nested in it, and whether it is
+-- well made.
+pub record Made : Type 0 where
+  pub declares : List ℕ
+  pub front : List Bounds
+  pub holds : Around → Bool
+
+-- a list of statements, each of which sees the locals that those before it declare
+abbrev pub list_holds : List Made → Around → Bool
+list_holds [] w = true
+list_holds (s ∷ ss) w = s.holds w && list_holds ss (record w { locals = s.declares ++ w.locals })
+
+abbrev pub only_front : List Made → List Bounds
+only_front (s ∷ []) = s.front
+only_front others = []
+
+abbrev pub simple : (Around → Bool) → Made
+simple holds = record { declares = []; front = []; holds = holds }
+
+abbrev pub init_holds : Around → Option Expr → Bool
+init_holds w (Some e) = is_made w e
+init_holds w None = true
+
+abbrev pub made_at : Stmt-F Made Made → Made
+made_at (Stmt-F.Assign place a subs value) = simple (λ w. is_made_target w a subs && is_made w value)
+made_at (Stmt-F.AddTo place a subs value atomic) = simple (λ w. is_made_target w a subs && is_made w value)
+made_at (Stmt-F.Declare place x init) =
+    record { declares = x ∷ []; front = []; holds = λ w. init_holds (record w { locals = x ∷ w.locals }) init }
+made_at (Stmt-F.SetLocal place x value) = simple (λ w. is_among w.locals x && is_made w value)
+made_at (Stmt-F.If place test body otherwise) = simple (λ w. is_made w test && (list_holds body w && list_holds otherwise w))
+made_at (Stmt-F.For l) = l
+made_at (Stmt-F.Block body) = record { declares = []; front = only_front body; holds = list_holds body }
+
+-- a parallel mark has a depth of at least 1
+abbrev pub has_depth : Mark → Bool
+has_depth Plain = true
+has_depth (Parallel depth schedule) = nat_le 1 depth
+
+-- the bounds, the step and the mark of a loop with this front, and the limits on loops and steps
+abbrev pub head_holds : List Bounds → Loop-F Made Made → Around → Bool
+head_holds front l w =
+    is_made_bound w.level l.start && (is_made_bound w.level l.limit
+    && (goes l.test l.step && (nat_le (unsigned_abs l.step) most_step
+    && (nat_lt w.level most_loops && (has_depth l.mark && not (is_bad_mark w.in_nest w.level l.mark front))))))
+
+abbrev pub inside : Mark → Around → Around
+inside m w = record w { level = suc w.level; in_nest = w.in_nest || is_parallel m }
+
+abbrev pub made_loop : Loop-F Made Made → Made
+made_loop l =
+    let front : List Bounds = record { start = l.start; limit = l.limit } ∷ only_front l.body in
+    record { declares = []; front = front; holds = λ w. head_holds front l w && list_holds l.body (inside l.mark w) }
+
+abbrev pub made : Stmt → Made
+made = fold-Stmt Made Made made_at made_loop
+
+-- ---- units
+
+-- so many numbers from 0
+abbrev pub below : ℕ → List ℕ
+below zero = []
+below (suc n) = n ∷ below n
+
+-- each local of the unit has one declaration, and nothing else is declared
+abbrev pub is_declared_once : ℕ → List ℕ → Bool
+is_declared_once n declared =
+    list_all (λ x. nat_eq (length (filter (nat_eq x) declared)) 1) (below n) && list_all (λ x. nat_lt x n) declared
+
+-- an array keeps the limits on dimensions and elements
+abbrev pub is_made_array : Array → Bool
+is_made_array a = nat_le (length a.dims) most_dimensions && has_lawful_sizes a
+
+abbrev pub outermost : Unit → Around
+outermost u = record { arrays = u.arrays; locals = []; level = 0; in_nest = false }
+
+-- A unit is well made.
+pub record IsWellMade (limits : NestLimits) (u : Unit) : Type 0 where
+  pub few_arrays : length u.arrays < 2 ^ 32
+  pub few_locals : length u.locals < 2 ^ 32
+  pub arrays : IsTrue (list_all is_made_array u.arrays)
+  pub locals : IsTrue (is_declared_once (length u.locals) (locals_in u.body))
+  pub body : IsTrue (list_holds (map made u.body) (outermost u))
+  pub hull : limits.hull u ≡ []
+  pub bound : limits.bound u ≡ []
+  pub references : limits.references most_references_made u ≡ []

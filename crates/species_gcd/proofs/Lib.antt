@@ -1,0 +1,4 @@
+pub mod Totals
+pub mod Coefficients
+pub mod Solutions
+pub mod Steps

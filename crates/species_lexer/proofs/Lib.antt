@@ -1,0 +1,10 @@
+pub mod PartLemmas
+pub mod Walk
+pub mod Plain
+pub mod Streams
+pub mod Answered
+pub mod Searches
+pub mod Stops
+pub mod PieceLemmas
+pub mod Runs
+pub mod Digits

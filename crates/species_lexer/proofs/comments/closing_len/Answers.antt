@@ -1,0 +1,6 @@
+use Rattle.std.proofs.Common.{rules, sym, ◌∙◌}
+use Rattle.species_lexer.proofs.Runs.{closing_later}
+use Rattle.species_lexer.proofs.comments.closing_len.Goals as goal
+
+pub loop-at-preserved : goal.loop-at-preserved
+loop-at-preserved c = c.loop-at.invariant ∙ closing_later c.args.bytes.now c.loop-at.at c.loop-at-test.true (search rules)

@@ -1,0 +1,61 @@
+ghost use Rattle.std.specs.Prelude.{◌≡◌, ◌≤◌, ◌+◌, length};
+ghost use Rattle.species_ast.specs.Text.Stream.{stream_of};
+
+use crate::scan::next_token;
+use crate::token::Token;
+use species_ast::LexRefusal;
+use std::marker::Model;
+
+/// A cursor over the tokens of a program. Contracts see it as the tokens that are left, and how they
+/// end: with the program, or with a refusal.
+#[derive(Drop)]
+pub struct Tokens<'a> {
+    text: &'a [u8],
+    at: usize,
+    is_head: bool,
+}
+
+impl<'a> Model for Tokens<'a> {
+    ghost use Rattle.std.specs.Prelude.{◌≤◌, length};
+    ghost use Rattle.species_ast.specs.Text.Stream.{TokenStream};
+    ghost use Rattle.species_lexer.specs.Cursor.{stream_at, IsCursor};
+
+    ghost Value = { TokenStream };
+
+    ghost view = { λ t. stream_at t.text.now t.at };
+
+    ghost invariant = { λ t. IsCursor t.text.now t.at t.is_head };
+}
+
+impl<'a> Tokens<'a> {
+    ghost use Rattle.species_lexer.specs.Tokens.{Gives};
+
+    /// The tokens of a program.
+    pub fn new(bytes: &'a [u8]) -> Tokens<'a>
+        requires { length bytes.now ≤ 4194304 }
+        ensures { result ≡ stream_of bytes.now }
+    {
+        Tokens {
+            text: bytes,
+            at: 0,
+            is_head: true,
+        }
+    }
+
+    /// The next token, or none at the end of the program. A refusal comes again at each later call.
+    ///
+    /// The definition of a name is found by going through the directives before it again.
+    pub fn next(&mut self) -> Result<Option<Token<'a>>, LexRefusal>
+        ensures { Gives result self.old self.new }
+    {
+        match next_token(self.text, self.at, self.is_head) {
+            Err(refusal) => Err(refusal),
+            Ok(None) => Ok(None),
+            Ok(Some((token, behind))) => {
+                self.at = behind;
+                self.is_head = false;
+                Ok(Some(token))
+            }
+        }
+    }
+}

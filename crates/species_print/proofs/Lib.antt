@@ -1,0 +1,3 @@
+pub mod ExprTexts
+pub mod StmtTexts
+pub mod UnitTexts

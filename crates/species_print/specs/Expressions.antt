@@ -1,0 +1,153 @@
+-- The canonical text of expressions: brackets stand only where C17 6.5 needs them.
+use Rattle.std.specs.Prelude.{ℕ, suc, ◌+◌, ℤ, pos, negsuc, Bool, true, false, ◌&&◌, ◌||◌, nat_lt, int_lt, if◌then◌else◌, List, [], ◌∷◌, ◌++◌, map, codes, decimal, Option, option_map, unwrap_or, slice_get}
+use Rattle.std.specs.List.{flat_map}
+use Rattle.species_ast.specs.declared.tree.Binary.{Binary}
+use Rattle.species_ast.specs.declared.tree.Binary.TheVariants as binary
+use Rattle.species_ast.specs.declared.tree.Expr.{Expr, out-Expr, para-Expr}
+use Rattle.species_ast.specs.declared.tree.Expr.TheOpen.{Expr-F}
+use Rattle.species_ast.specs.declared.tree.Kind.{Kind}
+use Rattle.species_ast.specs.declared.tree.Kind.TheVariants as of_kind
+use Rattle.species_ast.specs.declared.tree.Unary.{Unary}
+use Rattle.species_ast.specs.declared.tree.Unary.TheVariants as unary
+use Rattle.species_ast.specs.declared.tree.Unit.{Unit}
+use Rattle.species_ast.specs.declared.tree.Value.{Value}
+use Rattle.species_ast.specs.declared.tree.Value.TheVariants as value
+use Rattle.species_ast.specs.declared.token.TokenKind.TheVariants as kind
+use Rattle.species_print.specs.Pieces.{Piece, Lexeme, punctuator, keyword, name, number, spaced}
+
+-- ---- names: what has no name is written as nothing
+
+abbrev pub array_name : Unit → ℕ → List ℕ
+array_name u n = unwrap_or (option_map (λ a. a.name) (slice_get u.arrays n)) []
+
+abbrev pub local_name : Unit → ℕ → List ℕ
+local_name u n = unwrap_or (option_map (λ l. l.name) (slice_get u.locals n)) []
+
+-- the name of the loop at this level
+abbrev pub iter_name : List (List ℕ) → ℕ → List ℕ
+iter_name iters level = unwrap_or (slice_get iters level) []
+
+abbrev pub kind_word : Kind → Piece
+kind_word of_kind.Int = keyword "int"
+kind_word of_kind.Unsigned = keyword "unsigned"
+
+-- ---- operators
+
+abbrev pub binary_sign : Binary → List ℕ
+binary_sign binary.Mul = codes "*"
+binary_sign binary.Div = codes "/"
+binary_sign binary.Rem = codes "%"
+binary_sign binary.Add = codes "+"
+binary_sign binary.Sub = codes "-"
+binary_sign binary.Shl = codes "<<"
+binary_sign binary.Shr = codes ">>"
+binary_sign binary.Lt = codes "<"
+binary_sign binary.Le = codes "<="
+binary_sign binary.Gt = codes ">"
+binary_sign binary.Ge = codes ">="
+binary_sign binary.Eq = codes "=="
+binary_sign binary.Ne = codes "!="
+binary_sign binary.BitAnd = codes "&"
+binary_sign binary.BitXor = codes "^"
+binary_sign binary.BitOr = codes "|"
+
+abbrev pub unary_sign : Unary → List ℕ
+unary_sign unary.Neg = codes "-"
+unary_sign unary.Not = codes "~"
+unary_sign unary.LogNot = codes "!"
+
+abbrev pub is_minus : Unary → Bool
+is_minus unary.Neg = true
+is_minus _ = false
+
+-- the levels of C17 6.5.5 to 6.5.14; an operator of a higher level binds tighter
+abbrev pub binary_level : Binary → ℕ
+binary_level binary.Mul = 10
+binary_level binary.Div = 10
+binary_level binary.Rem = 10
+binary_level binary.Add = 9
+binary_level binary.Sub = 9
+binary_level binary.Shl = 8
+binary_level binary.Shr = 8
+binary_level binary.Lt = 7
+binary_level binary.Le = 7
+binary_level binary.Gt = 7
+binary_level binary.Ge = 7
+binary_level binary.Eq = 6
+binary_level binary.Ne = 6
+binary_level binary.BitAnd = 5
+binary_level binary.BitXor = 4
+binary_level binary.BitOr = 3
+
+-- ---- levels of expressions
+
+-- no number token is negative: such a literal is written as the negation of its size
+abbrev pub is_negative : Value → Bool
+is_negative (value.Int z) = int_lt z (pos 0)
+is_negative (value.Unsigned n) = false
+
+abbrev pub level_at : {X : Type 0} → Expr-F X → ℕ
+level_at (Expr-F.Literal v) = if is_negative v then 11 else 12
+level_at (Expr-F.Unary op a) = 11
+level_at (Expr-F.Cast k a) = 11
+level_at (Expr-F.Binary op a b) = binary_level op
+level_at (Expr-F.And a b) = 2
+level_at (Expr-F.Or a b) = 1
+level_at (Expr-F.Cond c a b) = 0
+level_at _ = 12
+
+-- how tight an expression binds, from 0 for `? :` to 12 for a name
+abbrev pub level_of : Expr → ℕ
+level_of e = level_at (out-Expr e)
+
+abbrev pub negation_at : {X : Type 0} → Expr-F X → Bool
+negation_at (Expr-F.Literal v) = is_negative v
+negation_at (Expr-F.Unary op a) = is_minus op
+negation_at _ = false
+
+-- whether an expression begins with a unary minus of its own
+abbrev pub is_negation : Expr → Bool
+is_negation e = negation_at (out-Expr e)
+
+-- ---- the pieces of an expression
+
+-- an operand, with its pieces
+abbrev pub Operand : Type 0
+Operand = Expr × List Piece
+
+abbrev pub bracketed : Bool → List Piece → List Piece
+bracketed true ps = punctuator "(" ∷ (ps ++ punctuator ")" ∷ [])
+bracketed false ps = ps
+
+-- in brackets where its level is below this one
+abbrev pub at_least : ℕ → Operand → List Piece
+at_least level a = bracketed (nat_lt (level_of a.0) level) a.1
+
+-- behind a unary operator: `--` would be another operator, so a minus behind a minus stands in brackets too
+abbrev pub behind_unary : Unary → Operand → List Piece
+behind_unary op a = bracketed (nat_lt (level_of a.0) 11 || (is_minus op && is_negation a.0)) a.1
+
+abbrev pub subscript : List Piece → List Piece
+subscript ps = punctuator "[" ∷ (ps ++ punctuator "]" ∷ [])
+
+abbrev pub literal_pieces : Value → List Piece
+literal_pieces (value.Int (pos n)) = number n ∷ []
+literal_pieces (value.Int (negsuc n)) = punctuator "-" ∷ number (suc n) ∷ []
+literal_pieces (value.Unsigned n) = Lexeme (decimal n ++ codes "u") (kind.Number (value.Unsigned n)) ∷ []
+
+abbrev pub expr_step : Unit → List (List ℕ) → Expr-F Operand → List Piece
+expr_step u iters (Expr-F.Literal v) = literal_pieces v
+expr_step u iters (Expr-F.Iter level) = name (iter_name iters level) ∷ []
+expr_step u iters (Expr-F.Local n) = name (local_name u n) ∷ []
+expr_step u iters (Expr-F.Elem array subs) = name (array_name u array) ∷ flat_map subscript (map (λ a. a.1) subs)
+expr_step u iters (Expr-F.Unary op a) = Lexeme (unary_sign op) kind.Punct ∷ behind_unary op a
+expr_step u iters (Expr-F.Binary op a b) =
+    at_least (binary_level op) a ++ (spaced (binary_sign op) ++ at_least (binary_level op + 1) b)
+expr_step u iters (Expr-F.And a b) = at_least 2 a ++ (spaced (codes "&&") ++ at_least 3 b)
+expr_step u iters (Expr-F.Or a b) = at_least 1 a ++ (spaced (codes "||") ++ at_least 2 b)
+expr_step u iters (Expr-F.Cond c a b) = at_least 1 c ++ (spaced (codes "?") ++ (a.1 ++ (spaced (codes ":") ++ b.1)))
+expr_step u iters (Expr-F.Cast k a) = punctuator "(" ∷ kind_word k ∷ punctuator ")" ∷ at_least 11 a
+
+-- `iters` has the names of the loops around the expression, by level
+abbrev pub expr_pieces : Unit → List (List ℕ) → Expr → List Piece
+expr_pieces u iters = para-Expr (List Piece) (expr_step u iters)

@@ -1,0 +1,6 @@
+pub mod Pieces
+pub mod Expressions
+pub mod Statements
+pub mod Units
+pub mod Named
+pub mod Texts

@@ -1,0 +1,143 @@
+//! Names, numbers and signs.
+ghost use Rattle.std.specs.Prelude.{◌≡◌, ◌++◌, [], OnOk, OnErr, decimal, codes, slice_get, unwrap_or, option_map};
+ghost use Rattle.std.specs.Fmt.{signed_decimal};
+ghost use Rattle.species_print.specs.Pieces.{text_of, piece_text, spaced};
+ghost use Rattle.species_print.specs.Expressions.{array_name, local_name, iter_name, kind_word, literal_pieces, binary_sign, unary_sign};
+ghost use Rattle.species_print.specs.Statements.{local_kind, test_sign};
+
+use itoa::{Buffer, Integer};
+use species_ast::{Binary, Kind, Name, OutOfMemory, Test, Unary, Unit, Value};
+
+pub(crate) fn put(text: &[u8], out: &mut Vec<u8>) -> Result<(), OutOfMemory>
+    ensures ok { OnOk result (out.new.items ≡ out.old.items ++ text.now) }
+    ensures err { OnErr result (out.new.items ≡ out.old.items) }
+{
+    out.extend_from_slice(text)?;
+    Ok(())
+}
+
+pub(crate) fn put_number(n: u32, out: &mut Vec<u8>) -> Result<(), OutOfMemory>
+    ensures { OnOk result (out.new.items ≡ out.old.items ++ decimal n) }
+{
+    let mut buffer = Buffer::new();
+    out.extend_from_slice(buffer.format(n).as_bytes())?;
+    Ok(())
+}
+
+pub(crate) fn put_signed(n: i32, out: &mut Vec<u8>) -> Result<(), OutOfMemory>
+    ensures { OnOk result (out.new.items ≡ out.old.items ++ signed_decimal n) }
+{
+    let mut buffer = Buffer::new();
+    out.extend_from_slice(buffer.format(n).as_bytes())?;
+    Ok(())
+}
+
+pub(crate) fn put_literal(value: Value, out: &mut Vec<u8>) -> Result<(), OutOfMemory>
+    ensures { OnOk result (out.new.items ≡ out.old.items ++ text_of (literal_pieces value)) }
+{
+    match value {
+        Value::Int(n) => {
+            put_signed(n, out)?;
+            Ok(())
+        }
+        Value::Unsigned(n) => {
+            put_number(n, out)?;
+            put(b"u", out)?;
+            Ok(())
+        }
+    }
+}
+
+/// The array's name, or nothing where the unit has no such array.
+pub(crate) fn array_name(unit: &Unit, array: u32) -> &[u8]
+    ensures { result.now ≡ array_name unit.now array }
+{
+    match unit.arrays.as_slice().get(array as usize) {
+        Some(array) => array.name.as_slice(),
+        None => &[],
+    }
+}
+
+/// The local's name, or nothing where the unit has no such local.
+pub(crate) fn local_name(unit: &Unit, local: u32) -> &[u8]
+    ensures { result.now ≡ local_name unit.now local }
+{
+    match unit.locals.as_slice().get(local as usize) {
+        Some(local) => local.name.as_slice(),
+        None => &[],
+    }
+}
+
+pub(crate) fn local_kind(unit: &Unit, local: u32) -> Kind
+    ensures { result ≡ local_kind unit.now local }
+{
+    match unit.locals.as_slice().get(local as usize) {
+        Some(local) => local.kind,
+        None => Kind::Int,
+    }
+}
+
+/// The name of the loop at this level, or nothing where there is none.
+pub(crate) fn iter_name(iters: &[Name], level: u32) -> &[u8]
+    ensures { result.now ≡ iter_name iters.now level }
+{
+    match iters.get(level as usize) {
+        Some(name) => name.as_slice(),
+        None => &[],
+    }
+}
+
+pub(crate) fn kind_word(kind: Kind) -> &'static [u8]
+    ensures { result.now ≡ piece_text (kind_word kind) }
+{
+    match kind {
+        Kind::Int => b"int",
+        Kind::Unsigned => b"unsigned",
+    }
+}
+
+/// The operator with a space on each side.
+pub(crate) fn spaced_binary(op: Binary) -> &'static [u8]
+    ensures { result.now ≡ text_of (spaced (binary_sign op)) }
+{
+    match op {
+        Binary::Mul => b" * ",
+        Binary::Div => b" / ",
+        Binary::Rem => b" % ",
+        Binary::Add => b" + ",
+        Binary::Sub => b" - ",
+        Binary::Shl => b" << ",
+        Binary::Shr => b" >> ",
+        Binary::Lt => b" < ",
+        Binary::Le => b" <= ",
+        Binary::Gt => b" > ",
+        Binary::Ge => b" >= ",
+        Binary::Eq => b" == ",
+        Binary::Ne => b" != ",
+        Binary::BitAnd => b" & ",
+        Binary::BitXor => b" ^ ",
+        Binary::BitOr => b" | ",
+    }
+}
+
+pub(crate) fn unary_sign(op: Unary) -> &'static [u8]
+    ensures { result.now ≡ unary_sign op }
+{
+    match op {
+        Unary::Neg => b"-",
+        Unary::Not => b"~",
+        Unary::LogNot => b"!",
+    }
+}
+
+/// The comparison with a space on each side.
+pub(crate) fn spaced_test(test: Test) -> &'static [u8]
+    ensures { result.now ≡ text_of (spaced (test_sign test)) }
+{
+    match test {
+        Test::Lt => b" < ",
+        Test::Le => b" <= ",
+        Test::Gt => b" > ",
+        Test::Ge => b" >= ",
+    }
+}

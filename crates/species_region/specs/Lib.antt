@@ -1,0 +1,3 @@
+pub mod Coordinate
+pub mod Region
+pub mod Asked
