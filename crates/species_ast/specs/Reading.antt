@@ -1,5 +1,5 @@
 -- Reading a program: from its bytes to its raw tree, or to the reason against it that is looked at first.
-use Rattle.std.specs.Prelude.{◌≡◌, ℕ, List, length, Option, Some, None, ◌⊎◌}
+use Rattle.std.specs.Prelude.{◌≡◌, ℕ, List, length, Some, None}
 use Rattle.species_ast.specs.Token.{Token}
 use Rattle.species_ast.specs.Text.Stream.{TokenStream, IsCut, grammar_tokens}
 use Rattle.species_ast.specs.Text.Load.{load_refusal}

@@ -206,3 +206,15 @@ level_enough {Tok} {A} {O} g m c o r ko ho k h =
     let l1 : m ≤ 1 + m = omega arith in
     mapped_enough (λ p. joined g p.0 p.1) _ m
     (both_enough r (many m c (both o r)) 1 m m k h (many_enough m c (both o r) (both_takes o r 1 0 ko (fewer_takes r 1 k)) (both_enough o r 1 m m ko ho h l1)) l1)
+
+-- each depth that is enough gives the same answer
+pub same_depth : {Tok A : Type 0} (at : ℕ → Reader Tok A) → ((n : ℕ) → Under (at n) (at (suc n))) → ((n : ℕ) → Enough (at n) n) → (n m : ℕ) (ts : List Tok) → length ts < n → length ts < m → at n ts ≡ at m ts
+same_depth {Tok} {A} at under enough n m ts ln lm = once n m ln ∙ ap (λ k. at k ts) sum ∙ sym (once m n lm)
+  where
+    sum : m + n ≡ n + m
+    sum = omega arith
+    settle : (k j : ℕ) → length ts < k → Less (at k ts) (at (j + k) ts) → at k ts ≡ at (j + k) ts
+    settle k j lt (inl e) = absurd (enough k ts lt e)
+    settle k j lt (inr e) = e
+    once : (k j : ℕ) → length ts < k → at k ts ≡ at (j + k) ts
+    once k j lt = settle k j lt (grow at under k j ts)

@@ -1,9 +1,9 @@
 -- A depth above the number of tokens is enough.
-use Rattle.std.proofs.Common.{ℕ, zero, suc, ◌+◌, ◌≤◌, List, ◌∷◌, ◌++◌, length, arith, length-append}
+use Rattle.std.proofs.Common.{ℕ, zero, suc, ◌+◌, ◌≤◌, List, ◌∷◌, ◌++◌, length, arith, length-append, ◌≡◌, ◌<◌, refl}
 use Rattle.std.specs.Prelude.{is_some}
 use Rattle.species_grammar.specs.Reader.{Reader, Word, is_of, one, word, both, mapped, choose, skip, ends, maybe, maybe_word, cons_of}
 use Rattle.species_grammar.specs.Lawful.{plain, Enough, Takes}
-use Rattle.species_grammar.proofs.Depth.{fewer_enough, both_enough, mapped_enough, choose_enough, one_enough, skip_enough, ends_enough, maybe_enough, maybe_word_enough, many_enough, until_enough, level_enough, one_takes, both_takes, mapped_takes, choose_takes, skip_takes, fewer_takes, takes_of, takes_none, maybe_word_takes}
+use Rattle.species_grammar.proofs.Depth.{same_depth, fewer_enough, both_enough, mapped_enough, choose_enough, one_enough, skip_enough, ends_enough, maybe_enough, maybe_word_enough, many_enough, until_enough, level_enough, one_takes, both_takes, mapped_takes, choose_takes, skip_takes, fewer_takes, takes_of, takes_none, maybe_word_takes}
 use Rattle.species_ast.specs.Token.{Token}
 use Rattle.species_ast.specs.Grammar.Words.{punctuator}
 use Rattle.species_ast.specs.Grammar.Expressions.{Expression, Target, binary_sign}
@@ -12,12 +12,13 @@ use Rattle.species_ast.specs.declared.raw.RawTerm.TheVariants as term
 use Rattle.species_ast.specs.declared.raw.RawTarget.{RawTarget}
 use Rattle.species_ast.specs.declared.raw.RawStep.TheVariants as step
 use Rattle.species_parser.specs.Words.{the_mark, the_keyword, unary_operators, operators_at, assignment_operators, tests, names, numbers, includes, species_lines, parallel_lines, atomic_lines, is_mark, is_the_keyword, is_type, is_loop}
-use Rattle.species_parser.specs.Reading.{of_kind, unsigned_of, type_reader, number_of, element_of, unary_of, cast_of, opened_of, operation_of, choice_of, subscript_reader, subscripts_reader, opened_reader, operand_reader, level_reader, binary_reader, choice_reader, operand_at, expression_at, product_at, subscripts_at, target_of, target_at, array_of, array_at, more_arrays_at, global_of, global_at, local_of, local_at, more_locals_at, declaration_of, declaration_at, up_after, down_after, set_to, change_tail_at, up_first, down_first, target_first, change_at, assignment_of, atomic_of, atomic_at, add_after, sub_after, sum_at, step_up, step_down, step_add, step_sub, step_set, step_tail_at, step_of, step_at, header_of, optional, header_step_at, header_test_at, header_at, parallel_of, parallel_reader, loop_of, condition_at, if_of, items_at, block_of, empty_of, statement_at, body_at, function_of, function_at, after_of, include_of, external_at, unstatic, unit_at}
+use Rattle.species_parser.specs.Reading.{of_kind, unsigned_of, type_reader, number_of, element_of, unary_of, cast_of, opened_of, operation_of, choice_of, subscript_reader, subscripts_reader, opened_reader, operand_reader, level_reader, levels_reader, binary_reader, choice_reader, operand_at, expression_at, product_at, subscripts_at, target_of, target_at, array_of, array_at, more_arrays_at, global_of, global_at, local_of, local_at, more_locals_at, declaration_of, declaration_at, up_after, down_after, set_to, change_tail_at, up_first, down_first, target_first, change_at, assignment_of, atomic_of, atomic_at, add_after, sub_after, sum_at, step_up, step_down, step_add, step_sub, step_set, step_tail_at, step_of, step_at, header_of, optional, header_step_at, header_test_at, header_at, parallel_of, parallel_reader, loop_of, condition_at, if_of, items_at, block_of, empty_of, statement_at, body_at, function_of, function_at, after_of, include_of, external_at, unstatic, unit_at}
 use Rattle.species_parser.proofs.Expressions.{ExprBefore, ExprLaw, level_law}
 use Rattle.species_parser.proofs.Operands.{operand_law, expression_laws, expression_lawful, operand_lawful, target_lawful, subscripts_lawful}
 use Rattle.species_parser.proofs.Declarations.{declaration_lawful, global_lawful, arrays_lawful, local_lawful, locals_lawful}
 use Rattle.species_parser.proofs.Headers.{change_lawful, step_lawful, header_lawful}
 use Rattle.species_parser.proofs.Statements.{statement_lawful, statement_long, declaration_long}
+use Rattle.species_parser.proofs.Depth.{expressions_under, expression_under, statement_under, unit_under}
 use Rattle.species_parser.proofs.Units.{global_long}
 
 -- both, where the first takes nothing or one token
@@ -292,3 +293,21 @@ unit_enough (suc n) =
     choose_enough (is_of includes) _ _ (suc n) (mapped_enough include_of _ (suc n) (after_word includes (unit_at n) n h))
     (mapped_enough unstatic _ (suc n) (after_none (maybe_word (the_keyword "static")) (external_at n (unit_at n)) 0 (suc n) (maybe_word_takes (the_keyword "static")) (maybe_word_enough (the_keyword "static") (suc n))
     (choose_enough (is_the_keyword "void") _ _ (suc n) (function_enough n) (mapped_enough after_of _ (suc n) (after_one (global_at n) (unit_at n) n (globals_take n) (global_enough n) h)))))
+
+-- ---- each depth that is enough reads the same
+
+pub operand_same : (n m : ℕ) (ts : List Token) → length ts < n → length ts < m → operand_at n ts ≡ operand_at m ts
+operand_same = same_depth operand_at (λ n. (expressions_under n).0) (λ n. (expressions_enough n).0)
+
+pub expression_same : (n m : ℕ) (ts : List Token) → length ts < n → length ts < m → expression_at n ts ≡ expression_at m ts
+expression_same = same_depth expression_at expression_under expression_enough
+
+pub statement_same : (n m : ℕ) (ts : List Token) → length ts < n → length ts < m → statement_at n ts ≡ statement_at m ts
+statement_same = same_depth statement_at statement_under statement_enough
+
+pub unit_same : (n m : ℕ) (ts : List Token) → length ts < n → length ts < m → unit_at n ts ≡ unit_at m ts
+unit_same = same_depth unit_at unit_under unit_enough
+
+-- the levels one by one
+pub binary_levels : (m : ℕ) (u : Reader Token RawExpr) → binary_reader m u ≡ levels_reader m 10 u
+binary_levels m u = refl

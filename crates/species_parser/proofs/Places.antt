@@ -1,9 +1,8 @@
 -- The place of an expression is that of its first token, and of a statement that of its first token after any pragma.
-use Rattle.std.proofs.Common.{◌≡◌, ◌∙◌, ap, sym, refl, subst, ℕ, suc, List, [], ◌∷◌, ◌++◌, Option, Some, None, Bool, true, false, append_assoc}
+use Rattle.std.proofs.Common.{ap, sym, refl, subst, ℕ, suc, List, [], ◌∷◌, ◌++◌, Bool, append_assoc}
 use Rattle.species_ast.specs.Token.{Token}
-use Rattle.species_ast.specs.Spelling.{Spelling}
-use Rattle.species_ast.specs.Grammar.Words.{punctuator, keyword, name, species, parallel, atomic}
-use Rattle.species_ast.specs.Grammar.Expressions.{TypeSpecifier, binary_sign, place_of, Expression, Target}
+use Rattle.species_ast.specs.Grammar.Words.{punctuator}
+use Rattle.species_ast.specs.Grammar.Expressions.{TypeSpecifier, place_of, Expression, Target}
 use Rattle.species_ast.specs.Grammar.Declarations.{LocalDeclaration}
 use Rattle.species_ast.specs.Grammar.Statements.{target_place, assignment_sign, Change, SpeciesLine, ParallelLine, Statement}
 use Rattle.species_ast.specs.declared.tree.Kind.{Kind}

@@ -1,14 +1,12 @@
 -- Of each text one thing is said.
 use Rattle.std.proofs.Common.{◌≡◌, ◌∙◌, ap, sym, refl, subst, ℕ, List, length, Option, Some, None, inl, inr}
-use Rattle.std.specs.Prelude.{◌⊎◌}
 use Rattle.species_ast.specs.Token.{Token}
 use Rattle.species_ast.specs.Text.Stream.{TokenStream, IsCut, stream_of, grammar_tokens}
 use Rattle.species_ast.specs.Text.Load.{load_refusal}
 use Rattle.species_ast.specs.Grammar.Units.{Derives, SyntaxErrorBefore, place_before}
 use Rattle.species_ast.specs.Grammar.Law.{DerivesOrErrs}
-use Rattle.species_ast.specs.Reading.{HasTokens, Reads, Verdict, IsVerdict, ReadsOneWay}
+use Rattle.species_ast.specs.Reading.{HasTokens, Verdict, IsVerdict, ReadsOneWay}
 use Rattle.species_ast.specs.declared.token.LexRefusal.{LexRefusal}
-use Rattle.species_ast.specs.declared.raw.RawUnit.{RawUnit}
 use Rattle.species_ast.proofs.Cutting.{cuts_one_way}
 use Rattle.species_parser.proofs.Whole.{one_unit, one_place, derives_or_errs}
 
@@ -54,8 +52,10 @@ at_least_one text = go s.refusal refl (load_refusal (grammar_tokens s.tokens)) r
   where
     s : TokenStream
     s = stream_of text
+
     cut : IsCut text s
     cut = cuts_one_way.at_least_one text
+
     go : (o : Option LexRefusal) → s.refusal ≡ o → (l : Option ℕ) → load_refusal (grammar_tokens s.tokens) ≡ l → DerivesOrErrs (grammar_tokens s.tokens) → (v : Verdict) × IsVerdict text v
     go (Some r) e l f d = (Verdict.refused_text r, (s, cut, e))
     go None e (Some p) f d = (Verdict.refused_load p, (grammar_tokens s.tokens, (s, cut, e, refl), f))

@@ -1,6 +1,5 @@
 -- The readers decide the grammar.
-use Rattle.std.proofs.Common.{◌≡◌, ◌∙◌, ap, sym, refl, subst, ℕ, suc, ◌+◌, ◌<◌, List, [], ◌∷◌, ◌++◌, length, arith, inl, inr}
-use Rattle.std.specs.Prelude.{◌⊎◌}
+use Rattle.std.proofs.Common.{◌≡◌, ◌∙◌, sym, refl, ℕ, suc, ◌<◌, List, [], length, arith, inl, inr}
 use Rattle.species_grammar.specs.Reader.{Answer}
 use Rattle.species_grammar.specs.Lawful.{plain}
 use Rattle.species_grammar.specs.Whole.{whole, StopsBefore, DecidesGrammar}
@@ -43,6 +42,7 @@ derives_or_errs ts = go (whole (unit_at (suc (length ts))) ts) refl
   where
     fits : length ts < suc (length ts)
     fits = omega arith
+
     go : (o : Answer Token RawUnit) → whole (unit_at (suc (length ts))) ts ≡ o → DerivesOrErrs ts
     go (Answer.read u rest) h = inl (u, unit_decides.sound (suc (length ts)) ts u rest h)
     go (Answer.stuck back) h = inr (back, stuck_errs (suc (length ts)) ts back fits h)

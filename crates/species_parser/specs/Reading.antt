@@ -1,5 +1,5 @@
 -- The readers of the grammar. The number bounds how deep things nest and how many of one kind follow each other.
-use Rattle.std.specs.Prelude.{ℕ, zero, suc, List, [], Bool, is_some, Option, Some, None}
+use Rattle.std.specs.Prelude.{ℕ, zero, suc, ◌-◌, List, [], Bool, is_some, Option, Some, None}
 use Rattle.species_grammar.specs.Reader.{Reader, Word, is_of, one, word, both, mapped, choose, skip, ends, maybe, maybe_word, cons_of, too_shallow, many, until, level}
 use Rattle.species_ast.specs.Token.{Token}
 use Rattle.species_ast.specs.Spelling.{Spelling}
@@ -97,6 +97,11 @@ product_of m u = level_reader m 10 u
 abbrev pub binary_reader : ℕ → Reader Token RawExpr → Reader Token RawExpr
 binary_reader m u =
     level_reader m 1 (level_reader m 2 (level_reader m 3 (level_reader m 4 (level_reader m 5 (level_reader m 6 (level_reader m 7 (level_reader m 8 (level_reader m 9 (product_of m u)))))))))
+
+-- The same, level by level: with k levels below the operands, of which the lowest is 11 - k.
+abbrev pub levels_reader : ℕ → ℕ → Reader Token RawExpr → Reader Token RawExpr
+levels_reader m zero u = u
+levels_reader m (suc k) u = level_reader m (10 - k) (levels_reader m k u)
 
 abbrev pub choice_reader : ℕ → Reader Token RawExpr → Reader Token RawExpr → Reader Token RawExpr
 choice_reader m u e = mapped choice_of (both (binary_reader m u) (maybe (the_mark "?") (both e (skip (the_mark ":") e))))

@@ -23,14 +23,8 @@ pub fn law_reading()
 /// The place of an expression or a declaration is that of its first token, and the place of a
 /// statement that of its first token after any pragma.
 pub fn law_places()
-    ensures expression {
-        (level : ℕ) (x : RawExpr) (ts : List Token) → Expression level x ts → StartsAt (place_of x) ts
-    }
-    ensures declaration {
-        (s : RawStmt) (ts : List Token) → LocalDeclaration s ts → StartsAt (statement_place_of s) ts
-    }
-    ensures statement {
-        (last_if : Bool) (s : RawStmt) (ts : List Token)
-            → Statement last_if s ts → StartsAt (statement_place_of s) (after_pragmas ts)
-    }
+    ensures expression { (level : ℕ) (x : RawExpr) (ts : List Token) → Expression level x ts → StartsAt (place_of x) ts }
+    ensures declaration { (s : RawStmt) (ts : List Token) → LocalDeclaration s ts → StartsAt (statement_place_of s) ts }
+    ensures statement { (last_if : Bool) (s : RawStmt) (ts : List Token)
+        → Statement last_if s ts → StartsAt (statement_place_of s) (after_pragmas ts) }
 {}
