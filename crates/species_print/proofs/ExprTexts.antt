@@ -1,12 +1,12 @@
 -- The text of each variant of an expression, as it is appended.
-use Rattle.std.proofs.Common.{◌<◌, add-one, length, get_or, take, ◌≡◌, ◌∙◌, ap, sym, refl, append_assoc, ℕ, ◌+◌, suc, ℤ, pos, negsuc, List, [], ◌∷◌, ◌++◌, map, codes, decimal, Bool, true, false}
+use Rattle.std.proofs.Common.{◌<◌, add-one, length, get_or, take, ◌≡◌, ◌∙◌, ap, sym, refl, append_assoc, ℕ, ◌+◌, ℤ, pos, negsuc, List, [], ◌∷◌, ◌++◌, map, codes, true}
 use Rattle.std.specs.Fmt.{signed_decimal}
 use Rattle.std.specs.List.{flat_map}
 use Rattle.std.proofs.lemmas.Grind.{flat_map-append}
 use Rattle.std.proofs.lemmas.List.{append-nil}
 use Rattle.std.proofs.Math.Seq.{take-suc}
 use Rattle.species_ast.specs.declared.tree.Binary.{Binary}
-use Rattle.species_ast.specs.declared.tree.Expr.{Expr, para-Expr, para-roll-Expr}
+use Rattle.species_ast.specs.declared.tree.Expr.{Expr, para-roll-Expr}
 use Rattle.species_ast.specs.declared.tree.Expr.TheOpen.{Expr-F}
 use Rattle.species_ast.specs.declared.tree.Expr.TheVariants as expr
 use Rattle.species_ast.specs.declared.tree.Kind.{Kind}

@@ -1,3 +1,4 @@
 pub mod ExprTexts
 pub mod StmtTexts
 pub mod UnitTexts
+pub mod NamedLaws

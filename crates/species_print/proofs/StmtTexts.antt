@@ -1,20 +1,18 @@
 -- The text of each variant of a statement, as it is appended.
 use Rattle.std.proofs.Common.{◌≡◌, ◌∙◌, ap, sym, refl, append_assoc, ℕ, List, [], ◌∷◌, ◌++◌, map, codes, Bool, true, false, Option, Some, None}
-use Rattle.std.specs.List.{flat_map}
 use Rattle.std.proofs.lemmas.Grind.{flat_map-append}
 use Rattle.std.proofs.lemmas.List.{append-nil}
 use Rattle.species_ast.specs.Line.{Line}
 use Rattle.species_ast.specs.declared.tree.Expr.{Expr}
-use Rattle.species_ast.specs.declared.tree.Loop.{Loop, roll-Loop, out-Loop, fold-Loop}
-use Rattle.species_ast.specs.declared.tree.Stmt.{Stmt, fold-Stmt}
-use Rattle.species_ast.specs.declared.tree.Stmt.TheOpen.{Stmt-F, Loop-F}
+use Rattle.species_ast.specs.declared.tree.Loop.{Loop, out-Loop}
+use Rattle.species_ast.specs.declared.tree.Stmt.{Stmt}
 use Rattle.species_ast.specs.declared.tree.Stmt.TheVariants as stmt
 use Rattle.species_ast.specs.declared.tree.Unit.{Unit}
 use Rattle.species_ast.proofs.Folds.{fold_stmt-Assign, fold_stmt-AddTo, fold_stmt-Declare, fold_stmt-SetLocal, fold_stmt-If, fold_stmt-For, fold_stmt-Block, fold_loop, fold_loop-out}
 use Rattle.species_print.specs.Pieces.{Piece, text_of, piece_text, line, spaced, name, punctuator}
-use Rattle.species_print.specs.Expressions.{expr_pieces, array_name, local_name, kind_word, subscript}
-use Rattle.species_print.specs.Statements.{Layout, all_of, deeper, element, assignment, declaration, initializer, local_kind, if_head, for_head, else_part, atomic_line, close, species_line, step_pieces, test_sign, stmt_step, loop_layer, stmt_layout, loop_layout, stmt_text, loop_text, without_line, head_at, head_text}
-use Rattle.species_print.specs.Texts.{expr_text, element_text, assignment_text, declaration_text, if_head_text, for_head_text, stmts_text, else_text, subscript_text, species_text, pragma_text}
+use Rattle.species_print.specs.Expressions.{expr_pieces, array_name, local_name, kind_word}
+use Rattle.species_print.specs.Statements.{Layout, all_of, deeper, element, assignment, declaration, initializer, local_kind, if_head, for_head, else_part, atomic_line, close, species_line, stmt_step, loop_layer, stmt_layout, stmt_text, loop_text, without_line, head_at, head_text}
+use Rattle.species_print.specs.Texts.{expr_text, element_text, assignment_text, declaration_text, if_head_text, for_head_text, stmts_text, else_text, species_text, pragma_text}
 use Rattle.species_print.proofs.ExprTexts.{text_of-append, text-subscripts}
 
 -- ---- lines

@@ -1,22 +1,20 @@
 -- The text of a unit, as it is appended, and that a unit without marks has no parallel lines.
-use Rattle.std.proofs.Common.{◌≡◌, ◌∙◌, ap, sym, refl, append_assoc, ℕ, List, [], ◌∷◌, ◌++◌, map, codes, Bool, true, false, not, ◌&&◌, Option, if◌then◌else◌, IsTrue}
+use Rattle.std.proofs.Common.{◌≡◌, ◌∙◌, ap, sym, refl, append_assoc, ℕ, List, [], ◌∷◌, ◌++◌, map, codes, Bool, true, false, not, ◌&&◌}
 use Rattle.std.specs.List.{flat_map, list_all}
-use Rattle.std.proofs.lemmas.Grind.{flat_map-append}
 use Rattle.species_ast.specs.Marks.{all_true, test_step, test_layer, is_plain, unmarked_stmt, IsUnmarked}
 use Rattle.species_ast.specs.declared.tree.Array.{Array}
-use Rattle.species_ast.specs.declared.tree.Expr.{Expr}
-use Rattle.species_ast.specs.declared.tree.Loop.{Loop, roll-Loop, fold-Loop}
+use Rattle.species_ast.specs.declared.tree.Loop.{roll-Loop}
 use Rattle.species_ast.specs.declared.tree.Mark.{Mark}
 use Rattle.species_ast.specs.declared.tree.Mark.TheVariants as mark
-use Rattle.species_ast.specs.declared.tree.Stmt.{Stmt, fold-Stmt}
+use Rattle.species_ast.specs.declared.tree.Stmt.{Stmt}
 use Rattle.species_ast.specs.declared.tree.Stmt.TheOpen.{Stmt-F, Loop-F}
 use Rattle.species_ast.specs.declared.tree.Unit.{Unit}
 use Rattle.species_ast.proofs.Folds.{fold_stmt-Assign, fold_stmt-AddTo, fold_stmt-Declare, fold_stmt-SetLocal, fold_stmt-If, fold_stmt-For, fold_stmt-Block, fold_loop}
 use Rattle.species_ast.proofs.Induction.{Each, each_all, StmtCases, stmt_ind}
 use Rattle.species_print.specs.Pieces.{Piece, text_of, piece_text, line, punctuator, keyword, name, space}
 use Rattle.species_print.specs.Expressions.{kind_word}
-use Rattle.species_print.specs.Statements.{Layout, all_of, deeper, if_head, for_head, else_part, close, species_line, parallel_line, stmt_step, loop_layer, stmt_layout, loop_layout}
-use Rattle.species_print.specs.Units.{include_line, size, array_line, function_line, front, unit_pieces, canonical_text}
+use Rattle.species_print.specs.Statements.{Layout, all_of, deeper, if_head, for_head, else_part, close, species_line, parallel_line, stmt_step, loop_layer, stmt_layout}
+use Rattle.species_print.specs.Units.{include_line, size, array_line, function_line, front, canonical_text}
 use Rattle.species_print.specs.Texts.{include_text, size_text, array_text, front_text, stmts_text}
 use Rattle.species_print.proofs.ExprTexts.{text_of-append}
 use Rattle.species_print.proofs.StmtTexts.{text-line, text-all}
@@ -107,7 +105,7 @@ same_cases u =
           at iters ind (fold_stmt-SetLocal (stmt_step u) with place n value ∙ sym (fold_stmt-SetLocal (stmt_step u) without place n value));
       choice = λ place c body otherwise same_body same_otherwise plain iters ind.
           let both = both_true (all_true (map unmarked_stmt body)) (all_true (map unmarked_stmt otherwise))
-              (sym (fold_stmt-If test head place c body otherwise) ∙ plain) in
+          (sym (fold_stmt-If test head place c body otherwise) ∙ plain) in
           at iters ind (fold_stmt-If (stmt_step u) with place c body otherwise) ∙
           ap (λ ps. line ind (if_head u iters c) ++ (ps ++ (else_part (map (stmt_layout true u) otherwise) iters ind ++ close ind)))
           (same_all u body same_body both.0 iters (deeper ind)) ∙
@@ -116,7 +114,7 @@ same_cases u =
           sym (at iters ind (fold_stmt-If (stmt_step u) without place c body otherwise));
       loop = λ l same plain iters ind.
           let both = both_true (is_plain l.mark) (all_true (map unmarked_stmt l.body))
-              (sym (fold_loop test head l) ∙ (sym (fold_stmt-For test head (roll-Loop l)) ∙ plain)) in
+          (sym (fold_loop test head l) ∙ (sym (fold_stmt-For test head (roll-Loop l)) ∙ plain)) in
           at iters ind (fold_stmt-For (stmt_step u) with (roll-Loop l) ∙ fold_loop (stmt_step u) with l) ∙
           ap (λ ps. species_line l.line ind ++ (ps ++ (line ind (for_head u iters l) ++
           (all_of (map (stmt_layout true u) l.body) (iters ++ l.iter ∷ []) (deeper ind) ++ close ind)))) (plain_line l.mark ind both.0) ∙

@@ -1,5 +1,5 @@
 -- The canonical text of expressions: brackets stand only where C17 6.5 needs them.
-use Rattle.std.specs.Prelude.{ℕ, suc, ◌+◌, ℤ, pos, negsuc, Bool, true, false, ◌&&◌, ◌||◌, nat_lt, int_lt, if◌then◌else◌, List, [], ◌∷◌, ◌++◌, map, codes, decimal, Option, option_map, unwrap_or, slice_get}
+use Rattle.std.specs.Prelude.{ℕ, suc, ◌+◌, pos, negsuc, Bool, true, false, ◌&&◌, ◌||◌, nat_lt, int_lt, if◌then◌else◌, List, [], ◌∷◌, ◌++◌, map, codes, decimal, option_map, unwrap_or, slice_get}
 use Rattle.std.specs.List.{flat_map}
 use Rattle.species_ast.specs.declared.tree.Binary.{Binary}
 use Rattle.species_ast.specs.declared.tree.Binary.TheVariants as binary

@@ -1,5 +1,5 @@
 -- The names that a statement needs.
-use Rattle.std.specs.Prelude.{ℕ, ◌+◌, Bool, true, false, IsTrue, ◌&&◌, nat_lt, List, map, length, Option, Some, None}
+use Rattle.std.specs.Prelude.{ℕ, ◌+◌, Bool, true, false, IsTrue, ◌&&◌, nat_lt, List, length, Option, Some, None}
 use Rattle.std.specs.List.{list_all}
 use Rattle.species_ast.specs.Marks.{all_true}
 use Rattle.species_ast.specs.declared.tree.Expr.{Expr, fold-Expr}

@@ -8,7 +8,7 @@ use Rattle.species_ast.specs.declared.tree.Stmt.{Stmt}
 use Rattle.species_ast.specs.declared.tree.Array.{Array}
 use Rattle.species_ast.specs.declared.tree.Test.{Test}
 use Rattle.species_ast.specs.declared.tree.Unit.{Unit}
-use Rattle.species_print.specs.Pieces.{Piece, text_of, piece_text, spaced}
+use Rattle.species_print.specs.Pieces.{text_of, piece_text, spaced}
 use Rattle.species_print.specs.Expressions.{array_name, local_name, kind_word, expr_pieces}
 use Rattle.species_print.specs.Statements.{deeper, local_kind, initializer, species_line, test_sign, step_pieces, stmt_text}
 

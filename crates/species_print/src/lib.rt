@@ -11,4 +11,3 @@ mod words;
 
 pub use statements::{print_head, print_loop, print_stmt};
 pub use units::{print, print_front};
-

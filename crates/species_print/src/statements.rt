@@ -6,9 +6,7 @@ ghost use Rattle.species_print.specs.Statements.{indentation, deeper, stmt_text,
 ghost use Rattle.species_print.specs.Texts.{element_text, assignment_text, declaration_text, for_start_text, for_test_text, for_end_text, for_head_text, if_head_text, stmts_text, else_text, pragma_text, species_text};
 
 use crate::expressions::{print_expr, print_subs};
-use crate::words::{
-    array_name, kind_word, local_kind, local_name, put, put_number, spaced_test,
-};
+use crate::words::{array_name, kind_word, local_kind, local_name, put, put_number, spaced_test};
 use species_ast::{Expr, LineText, Loop, Name, OutOfMemory, Stmt, Test, Unit};
 use sqlite_items::Items;
 use std::alloc::Global;
@@ -344,7 +342,10 @@ fn print_one(
 {
     match stmt {
         Stmt::Assign {
-            array, subs, value, ..
+            array,
+            subs,
+            value,
+            ..
         } => {
             put(indent, out)?;
             print_element(unit, iters, *array, subs.as_slice(), out)?;
@@ -415,7 +416,14 @@ fn print_bare_loop(
 {
     print_for_head(alloc, unit, iters, indent, head, out)?;
     let names = names_within(alloc, iters, &head.iter)?;
-    print_deeper(alloc, unit, head.body.as_slice(), names.as_slice(), indent, out)?;
+    print_deeper(
+        alloc,
+        unit,
+        head.body.as_slice(),
+        names.as_slice(),
+        indent,
+        out,
+    )?;
     print_close(indent, out)?;
     Ok(())
 }

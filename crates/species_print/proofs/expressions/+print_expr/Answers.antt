@@ -29,42 +29,70 @@ print_expr-returns-in_ok-print_behind_unary-in-Unary t c =
 
 pub print_expr-returns-in_ok-print_operand-in-Binary-2 : goal.print_expr-returns-in_ok-print_operand-in-Binary-2
 print_expr-returns-in_ok-print_operand-in-Binary-2 t c =
-    rw (c.in_ok-print_operand-in-Binary-2.ensures, c.in_ok-put-in-Binary.ensures.ok, c.in_ok-print_operand-in-Binary.ensures, c.get-in-Binary.ensures, c.get-in-Binary-2.ensures, c.spaced_binary.ensures, c.binary_level-level.ensures.value,
-        ap (expr_text c.args.unit.now c.args.iters.now) c.in-Binary.is ∙ text-Binary c.args.unit.now c.args.iters.now c.in-Binary.op c.in-Binary.a c.in-Binary.b)
+    rw (
+      c.in_ok-print_operand-in-Binary-2.ensures,
+      c.in_ok-put-in-Binary.ensures.ok,
+      c.in_ok-print_operand-in-Binary.ensures,
+      c.get-in-Binary.ensures,
+      c.get-in-Binary-2.ensures,
+      c.spaced_binary.ensures,
+      c.binary_level-level.ensures.value,
+      ap (expr_text c.args.unit.now c.args.iters.now) c.in-Binary.is ∙ text-Binary c.args.unit.now c.args.iters.now c.in-Binary.op c.in-Binary.a c.in-Binary.b,
+    )
     (regroup3 c.args.out.now.items
-        (text_of (at_least (binary_level c.in-Binary.op) (c.in-Binary.a, expr_pieces c.args.unit.now c.args.iters.now c.in-Binary.a)))
-        (text_of (spaced (binary_sign c.in-Binary.op)))
-        (text_of (at_least (binary_level c.in-Binary.op + 1) (c.in-Binary.b, expr_pieces c.args.unit.now c.args.iters.now c.in-Binary.b))))
+    (text_of (at_least (binary_level c.in-Binary.op) (c.in-Binary.a, expr_pieces c.args.unit.now c.args.iters.now c.in-Binary.a)))
+    (text_of (spaced (binary_sign c.in-Binary.op)))
+    (text_of (at_least (binary_level c.in-Binary.op + 1) (c.in-Binary.b, expr_pieces c.args.unit.now c.args.iters.now c.in-Binary.b))))
 
 pub print_expr-returns-in_ok-print_operand-in-And-2 : goal.print_expr-returns-in_ok-print_operand-in-And-2
 print_expr-returns-in_ok-print_operand-in-And-2 t c =
-    rw (c.in_ok-print_operand-in-And-2.ensures, c.in_ok-put-in-And.ensures.ok, c.in_ok-print_operand-in-And.ensures, c.get-in-And.ensures, c.get-in-And-2.ensures,
-        ap (expr_text c.args.unit.now c.args.iters.now) c.in-And.is ∙ text-And c.args.unit.now c.args.iters.now c.in-And.a c.in-And.b)
+    rw (
+      c.in_ok-print_operand-in-And-2.ensures,
+      c.in_ok-put-in-And.ensures.ok,
+      c.in_ok-print_operand-in-And.ensures,
+      c.get-in-And.ensures,
+      c.get-in-And-2.ensures,
+      ap (expr_text c.args.unit.now c.args.iters.now) c.in-And.is ∙ text-And c.args.unit.now c.args.iters.now c.in-And.a c.in-And.b,
+    )
     (regroup3 c.args.out.now.items
-        (text_of (at_least 2 (c.in-And.a, expr_pieces c.args.unit.now c.args.iters.now c.in-And.a)))
-        (codes " && ")
-        (text_of (at_least 3 (c.in-And.b, expr_pieces c.args.unit.now c.args.iters.now c.in-And.b))))
+    (text_of (at_least 2 (c.in-And.a, expr_pieces c.args.unit.now c.args.iters.now c.in-And.a)))
+    (codes " && ")
+    (text_of (at_least 3 (c.in-And.b, expr_pieces c.args.unit.now c.args.iters.now c.in-And.b))))
 
 pub print_expr-returns-in_ok-print_operand-in-Or-2 : goal.print_expr-returns-in_ok-print_operand-in-Or-2
 print_expr-returns-in_ok-print_operand-in-Or-2 t c =
-    rw (c.in_ok-print_operand-in-Or-2.ensures, c.in_ok-put-in-Or.ensures.ok, c.in_ok-print_operand-in-Or.ensures, c.get-in-Or.ensures, c.get-in-Or-2.ensures,
-        ap (expr_text c.args.unit.now c.args.iters.now) c.in-Or.is ∙ text-Or c.args.unit.now c.args.iters.now c.in-Or.a c.in-Or.b)
+    rw (
+      c.in_ok-print_operand-in-Or-2.ensures,
+      c.in_ok-put-in-Or.ensures.ok,
+      c.in_ok-print_operand-in-Or.ensures,
+      c.get-in-Or.ensures,
+      c.get-in-Or-2.ensures,
+      ap (expr_text c.args.unit.now c.args.iters.now) c.in-Or.is ∙ text-Or c.args.unit.now c.args.iters.now c.in-Or.a c.in-Or.b,
+    )
     (regroup3 c.args.out.now.items
-        (text_of (at_least 1 (c.in-Or.a, expr_pieces c.args.unit.now c.args.iters.now c.in-Or.a)))
-        (codes " || ")
-        (text_of (at_least 2 (c.in-Or.b, expr_pieces c.args.unit.now c.args.iters.now c.in-Or.b))))
+    (text_of (at_least 1 (c.in-Or.a, expr_pieces c.args.unit.now c.args.iters.now c.in-Or.a)))
+    (codes " || ")
+    (text_of (at_least 2 (c.in-Or.b, expr_pieces c.args.unit.now c.args.iters.now c.in-Or.b))))
 
 pub print_expr-returns-in_ok-print_expr-in-Cond-2 : goal.print_expr-returns-in_ok-print_expr-in-Cond-2
 print_expr-returns-in_ok-print_expr-in-Cond-2 t c =
-    rw (c.in_ok-print_expr-in-Cond-2.ensures, c.in_ok-put-in-Cond-2.ensures.ok, c.in_ok-print_expr-in-Cond.ensures, c.in_ok-put-in-Cond.ensures.ok, c.in_ok-print_operand-in-Cond.ensures,
-        c.get-in-Cond.ensures, c.get-in-Cond-2.ensures, c.get-in-Cond-3.ensures,
-        ap (expr_text c.args.unit.now c.args.iters.now) c.in-Cond.is ∙ text-Cond c.args.unit.now c.args.iters.now c.in-Cond.test c.in-Cond.a c.in-Cond.b)
+    rw (
+      c.in_ok-print_expr-in-Cond-2.ensures,
+      c.in_ok-put-in-Cond-2.ensures.ok,
+      c.in_ok-print_expr-in-Cond.ensures,
+      c.in_ok-put-in-Cond.ensures.ok,
+      c.in_ok-print_operand-in-Cond.ensures,
+      c.get-in-Cond.ensures,
+      c.get-in-Cond-2.ensures,
+      c.get-in-Cond-3.ensures,
+      ap (expr_text c.args.unit.now c.args.iters.now) c.in-Cond.is ∙ text-Cond c.args.unit.now c.args.iters.now c.in-Cond.test c.in-Cond.a c.in-Cond.b,
+    )
     (regroup5 c.args.out.now.items
-        (text_of (at_least 1 (c.in-Cond.test, expr_pieces c.args.unit.now c.args.iters.now c.in-Cond.test)))
-        (codes " ? ")
-        (expr_text c.args.unit.now c.args.iters.now c.in-Cond.a)
-        (codes " : ")
-        (expr_text c.args.unit.now c.args.iters.now c.in-Cond.b))
+    (text_of (at_least 1 (c.in-Cond.test, expr_pieces c.args.unit.now c.args.iters.now c.in-Cond.test)))
+    (codes " ? ")
+    (expr_text c.args.unit.now c.args.iters.now c.in-Cond.a)
+    (codes " : ")
+    (expr_text c.args.unit.now c.args.iters.now c.in-Cond.b))
 
 pub print_expr-returns-in_ok-print_operand-in-Cast : goal.print_expr-returns-in_ok-print_operand-in-Cast
 print_expr-returns-in_ok-print_operand-in-Cast t c =
@@ -73,6 +101,9 @@ print_expr-returns-in_ok-print_operand-in-Cast t c =
 pub print_subs-loop-expr-preserved : goal.print_subs-loop-expr-preserved
 print_subs-loop-expr-preserved t c =
     let text : Expr → List ℕ = subscript_text c.args.unit.now c.args.iters.now in
-    rw (c.in_ok-print_subscript.ensures, c.loop-expr.invariant,
-        flat_map-next text c.args.subs.now c.loop-expr.expr-index c.expr-item.result c.loop-expr-test.true c.expr-item.is)
+    rw (
+      c.in_ok-print_subscript.ensures,
+      c.loop-expr.invariant,
+      flat_map-next text c.args.subs.now c.loop-expr.expr-index c.expr-item.result c.loop-expr-test.true c.expr-item.is,
+    )
     (append_assoc c.args.out.now.items (flat_map text (take c.loop-expr.expr-index c.args.subs.now)) (text c.expr-item.result))

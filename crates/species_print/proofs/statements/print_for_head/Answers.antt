@@ -9,6 +9,6 @@ returns c =
     let head = out-Loop c.args.head.now in
     rw (c.in_ok-print_for_end.ensures, c.in_ok-print_for_test.ensures, c.in_ok-print_for_start.ensures, c.as_slice.ensures, c.in_ok-names.ensures, c.as_slice-iter.ensures)
     (regroup3 c.args.out.now.items
-        (for_start_text c.args.unit.now c.args.iters.now c.args.indent.now head.iter head.start)
-        (for_test_text c.args.unit.now (c.args.iters.now ++ head.iter ∷ []) head.iter head.test head.limit)
-        (for_end_text head.iter c.args.head.now))
+    (for_start_text c.args.unit.now c.args.iters.now c.args.indent.now head.iter head.start)
+    (for_test_text c.args.unit.now (c.args.iters.now ++ head.iter ∷ []) head.iter head.test head.limit)
+    (for_end_text head.iter c.args.head.now))
