@@ -114,7 +114,8 @@ fn one_loop(rt: HostRuntime) -> Result<(), Fail> {
     assert_eq!(rt; answers(&even, &odd, upto(63), j), (true, true));
     assert_eq!(rt; answers(&plain, &ahead, upto(63), j), (true, true));
     assert_eq!(rt; answers(&plain, &ahead, upto(64), j), (true, false));
-    assert_eq!(rt; answers(&fours, &odd, upto(63), j), (false, false));
+    // 4 * 1 - 2 * 2 - 1 is negative, and 4 * 2 - 2 * 3 - 1 positive; but 4 * x is above 2 * y + 1 wherever x is above y
+    assert_eq!(rt; answers(&fours, &odd, upto(63), j), (false, true));
     // 2^30 turns, at once
     assert_eq!(rt; answers(&plain, &far, upto(1073741823), j), (true, true));
     Ok(())
