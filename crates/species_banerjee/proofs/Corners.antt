@@ -7,7 +7,7 @@ use Rattle.species_region.specs.Coordinate.{origin_of, unit_of, IsCoordinate}
 use Rattle.species_banerjee.specs.declared.pairs.Entry.{Entry}
 use Rattle.species_banerjee.specs.declared.pairs.Entry.TheVariants.{Equal, Less, Greater, Any}
 use Rattle.species_banerjee.specs.declared.pairs.LoopPair.{LoopPair}
-use Rattle.species_banerjee.specs.Entry.{Relates}
+use Rattle.species_banerjee.specs.Entry.{Relates, SharesLoop}
 use Rattle.species_banerjee.specs.LoopPair.{Allows, IsOpen, gap_of, AreCorners}
 use Rattle.species_banerjee.proofs.Slopes.{slope, equal_bound, less_bound, greater_bound, any_bound}
 
@@ -148,3 +148,7 @@ open_any l first last left right is span other = (
   (λ open_at. (omega (arith, ints, (span open_at.0.0).0 open_at.1.0), omega (arith, ints, (other open_at.0.1).0 open_at.1.1))),
   (λ full. ((first, left), (corners_any l first last left right is span other full.0 full.1).allowed.0)),
 )
+
+-- one loop, where the entry asks something
+pub shared_by : (l : LoopPair) (e : Entry) → l.entry ≡ e → SharesLoop l.entry l.first l.second → SharesLoop e l.first l.second
+shared_by l e is h = subst (λ (x : Entry). SharesLoop x l.first l.second) is h

@@ -5,7 +5,7 @@ use Rattle.std.proofs.Math.IntN.{neg_ℤ, pos-*ℤ-pos}
 use Rattle.std.proofs.Math.Nat.{le-div_iff_mul-le, div-lt_iff_lt-mul, mul_comm}
 use Rattle.species_integers.proofs.Products.{mul_up, mul_zero, neg_mul}
 use Rattle.species_linear.specs.declared.loops.LoopRange.{LoopRange}
-use Rattle.species_region.specs.Coordinate.{IsCoordinate}
+use Rattle.species_region.specs.Coordinate.{iterator_at, IsCoordinate}
 
 -- the multiples of n that are not below near are those from the counter first on
 abbrev pub IsFirstFrom : ℕ → ℤ → ℤ → Type 0
@@ -25,8 +25,7 @@ first_is_zero n near h v = ((λ both. both.0), (λ above. (above, omega (arith, 
 -- b + 1 is at most n * m exactly from b / n + 1 on
 first_multiple : (b n m : ℕ) → 0 < n → ((b + 1) ≤ n * m) ↔ ((b / n + 1) ≤ m)
 first_multiple b n m h =
-    let by_division = div-lt_iff_lt-mul {k = n} {x = b} {y = m} h in
-    (
+    let by_division = div-lt_iff_lt-mul {k = n} {x = b} {y = m} h in (
       (λ p. omega (arith, by_division.1 (omega (arith, p, mul_comm n m)))),
       (λ p. omega (arith, by_division.0 (omega (arith, p)), mul_comm n m)),
     )
@@ -46,8 +45,7 @@ last_is_none n far h v above = (
 
 pub last_by_division : (n f : ℕ) (far : ℤ) → 0 < n → far ≡ pos f → IsLastTo n far (pos (f / n))
 last_by_division n f far h is (pos m) above =
-    let by_division = le-div_iff_mul-le {k = n} {x = m} {y = f} h in
-    (
+    let by_division = le-div_iff_mul-le {k = n} {x = m} {y = f} h in (
       (λ p. omega (arith, ints, by_division.1 (omega (arith, ints, p, is, pos-*ℤ-pos n m, mul_comm n m)))),
       (λ p. omega (arith, ints, by_division.0 (omega (arith, ints, p)), is, pos-*ℤ-pos n m, mul_comm n m)),
     )
@@ -62,8 +60,7 @@ pub counters_up : (r : LoopRange) (s first last : ℤ) (n : ℕ) → r.start ≡
     (v : ℤ) → IsCoordinate r v ↔ ((first ≤ℤ v) × (v ≤ℤ last))
 counters_up r s first last n is step from to v =
     let counted = counted_is r s v is in
-    let moved : s +ℤ r.step *ℤ v ≡ s +ℤ pos n *ℤ v = ap (λ (z : ℤ). s +ℤ z *ℤ v) step in
-    (
+    let moved : s +ℤ r.step *ℤ v ≡ s +ℤ pos n *ℤ v = ap (λ (z : ℤ). s +ℤ z *ℤ v) step in (
       (λ h. let inside = counted.0 h in
           ((from v).0 (inside.1, omega (arith, ints, inside.0.0, moved)), (to v inside.1).0 (omega (arith, ints, inside.0.1, moved)))),
       (λ h. let above = (from v).1 h.0 in
@@ -75,11 +72,13 @@ pub counters_down : (r : LoopRange) (s first last : ℤ) (n : ℕ) → r.start �
     (v : ℤ) → IsCoordinate r v ↔ ((first ≤ℤ v) × (v ≤ℤ last))
 counters_down r s first last n is step from to v =
     let counted = counted_is r s v is in
-    let moved : s +ℤ r.step *ℤ v ≡ s -ℤ pos n *ℤ v = omega (arith, ints, ap (λ (z : ℤ). z *ℤ v) step, neg_mul (pos n) v) in
-    (
+    let moved : s +ℤ r.step *ℤ v ≡ s -ℤ pos n *ℤ v = omega (arith, ints, ap (λ (z : ℤ). z *ℤ v) step, neg_mul (pos n) v) in (
       (λ h. let inside = counted.0 h in
           ((from v).0 (inside.1, omega (arith, ints, inside.0.1, moved)), (to v inside.1).0 (omega (arith, ints, inside.0.0, moved)))),
       (λ h. let above = (from v).1 h.0 in
           let below = (to v above.0).1 h.1 in
           counted.1 ((omega (arith, ints, below, moved), omega (arith, ints, above.1, moved)), above.0)),
     )
+
+pub counted_iterator : (r : LoopRange) (s v : ℤ) → r.start ≡ Some s → iterator_at r v ≡ s +ℤ r.step *ℤ v
+counted_iterator r s v is = rw is refl

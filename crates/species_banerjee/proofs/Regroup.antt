@@ -1,5 +1,6 @@
 -- The region as one fact for each level: the entries of the direction vector, <=> `IsInRegion`.
-use Rattle.std.proofs.Common.{◌≡◌, ℕ, zero, suc, ◌<◌, ◌≤◌, ℤ, pos, ◌≤ℤ◌, ◌<ℤ◌, arith, refl, subst, sym, List, [], ◌∷◌, length, Bool, true, false, nat_lt, nat_eq, if◌then◌else◌, ◌⊎◌, inl, inr, ◌≢◌}
+use Rattle.std.proofs.Common.{◌≡◌, ℕ, zero, suc, ◌+◌, ◌<◌, ◌≤◌, ℤ, pos, ◌≤ℤ◌, ◌<ℤ◌, arith, refl, subst, sym, List, [], ◌∷◌, length, Bool, true, false, nat_lt, nat_eq, if◌then◌else◌, IsTrue, ◌↔◌, ◌⊎◌, inl, inr}
+use Rattle.std.proofs.Math.Bool.{not}
 use Rattle.std.proofs.lemmas.Int.{ints}
 use Rattle.std.proofs.lemmas.Bool.{eq-eqb}
 use Rattle.std.proofs.lemmas.Bool.Decides.{nat_tests}
@@ -139,3 +140,27 @@ open_past at ps qs k loops small_ps small_qs h =
     let past_qs : length qs ≤ k = omega (arith, h, small_qs.short) in
     let after : level_of at < k = omega (arith, loops.first, past_ps) in
     ((pos 0, pos 0), (rw (range_past ps k past_ps) zero_coordinate, rw (range_past qs k past_qs) zero_coordinate, rw (entry_after at k after) tt))
+
+-- ---- tests
+pub never_both : (b : Bool) → b ≡ true → b ≡ false → ⊥
+never_both true h k = cc
+never_both false h k = cc
+
+from_not_true : (b : Bool) → not b ≡ true → b ≡ false
+from_not_true true h = cc
+from_not_true false h = refl
+
+pub before_or_here : (k n : ℕ) → k < n + 1 → (k < n) ⊎ (k ≡ n)
+before_or_here k n h = grind arith
+
+pub all_from_16 : (n : ℕ) (at : Direction) (ps qs : List LoopRange) → ShareLoops at ps qs → IsSmallPath ps → IsSmallPath qs → 16 ≤ n →
+    ((k : ℕ) → k < n → IsOpen (loop_pair_at at ps qs k)) → (k : ℕ) → IsOpen (loop_pair_at at ps qs k)
+all_from_16 n at ps qs loops small_ps small_qs all below k = elim (below_or_not k n) [
+  | inl t ↦ below k t.1
+  | inr t ↦ open_past at ps qs k loops small_ps small_qs (omega (arith, all, t.1))
+]
+
+pub open_decides_empty : (b : Bool) (at : Direction) (ps qs : List LoopRange) → ShareLoops at ps qs → IsTrue b ↔ ((k : ℕ) → IsOpen (loop_pair_at at ps qs k)) →
+    IsTrue (not b) ↔ IsEmptyRegion at ps qs
+open_decides_empty true at ps qs loops decide = ((λ t. absurd (never_both true refl (from_not_true true t))), (λ empty. absurd (open_not_empty at ps qs (decide.0 refl) empty)))
+open_decides_empty false at ps qs loops decide = ((λ t. not_open_empty at ps qs loops (λ each. never_both false (decide.1 each) refl)), (λ empty. refl))

@@ -49,15 +49,19 @@ pub least_more : (p q : Form) (at : Direction) (ps qs : List LoopRange) (n : ℕ
     l ≡ loop_pair_at at ps qs n → a ≡ coefficient_at p.terms n → b ≡ coefficient_at q.terms n →
     IsLeastOver (Allows l) (gap_of l a b) more → next ≡ low +ℤ more → IsLeastBelow p q at ps qs (n + 1) next
 least_more p q at ps qs n low more next a b l before is_l is_a is_b here step =
-    rw (add-one, step) (least_next {X = ℤ × ℤ} (allows_at at ps qs) (p.constant -ℤ q.constant) (gap_at p q at ps qs) n low more before
-    (rw (← is_l, ← is_a, ← is_b) here))
+    let with_loops = subst (λ (m : LoopPair). IsLeastOver (Allows m) (gap_of m a b) more) is_l here in
+    let with_first = subst (λ (c : ℤ). IsLeastOver (allows_at at ps qs n) (gap_of (loop_pair_at at ps qs n) c b) more) is_a with_loops in
+    let there = subst (λ (c : ℤ). IsLeastOver (allows_at at ps qs n) (gap_of (loop_pair_at at ps qs n) (coefficient_at p.terms n) c) more) is_b with_first in
+    rw (add-one, step) (least_next {X = ℤ × ℤ} (allows_at at ps qs) (p.constant -ℤ q.constant) (gap_at p q at ps qs) n low more before there)
 
 pub greatest_more : (p q : Form) (at : Direction) (ps qs : List LoopRange) (n : ℕ) (high more next a b : ℤ) (l : LoopPair) → IsGreatestBelow p q at ps qs n high →
     l ≡ loop_pair_at at ps qs n → a ≡ coefficient_at p.terms n → b ≡ coefficient_at q.terms n →
     IsGreatestOver (Allows l) (gap_of l a b) more → next ≡ high +ℤ more → IsGreatestBelow p q at ps qs (n + 1) next
 greatest_more p q at ps qs n high more next a b l before is_l is_a is_b here step =
-    rw (add-one, step) (greatest_next {X = ℤ × ℤ} (allows_at at ps qs) (p.constant -ℤ q.constant) (gap_at p q at ps qs) n high more before
-    (rw (← is_l, ← is_a, ← is_b) here))
+    let with_loops = subst (λ (m : LoopPair). IsGreatestOver (Allows m) (gap_of m a b) more) is_l here in
+    let with_first = subst (λ (c : ℤ). IsGreatestOver (allows_at at ps qs n) (gap_of (loop_pair_at at ps qs n) c b) more) is_a with_loops in
+    let there = subst (λ (c : ℤ). IsGreatestOver (allows_at at ps qs n) (gap_of (loop_pair_at at ps qs n) (coefficient_at p.terms n) c) more) is_b with_first in
+    rw (add-one, step) (greatest_next {X = ℤ × ℤ} (allows_at at ps qs) (p.constant -ℤ q.constant) (gap_at p q at ps qs) n high more before there)
 
 pub more_small : (n : ℕ) (total more next : ℤ) → unsigned_abs total ≤ (1 + n) * 2 ^ 112 → unsigned_abs more ≤ 2 ^ 112 → next ≡ total +ℤ more →
     unsigned_abs next ≤ (1 + (n + 1)) * 2 ^ 112
@@ -105,8 +109,7 @@ pub reached : (n : ℕ) (p q : Form) (at : Direction) (ps qs : List LoopRange) (
 reached n p q at ps qs g rising_p rising_q named_p named_q each found =
     let z : ℕ → ℤ × ℤ = joined n found.0 (λ k. (each k).0) in
     let x : Point = λ k. (z k).0 in
-    let y : Point = λ k. (z k).1 in
-    (
+    let y : Point = λ k. (z k).1 in (
       x,
       y,
       allowed_region at ps qs x y (joined_allowed n at ps qs found.0 (λ k. (each k).0) found.1 (λ k. (each k).1)),
@@ -125,8 +128,7 @@ pub sign_by_extremes : (n : ℕ) (p q : Form) (at : Direction) (ps qs : List Loo
     ((pos 0 <ℤ low) ⊎ (high <ℤ pos 0)) ↔ (IsPositive p q at ps qs ⊎ IsNegative p q at ps qs)
 sign_by_extremes n p q at ps qs low high rising_p rising_q named_p named_q path_p path_q loops each least greatest =
     let at_least = reached n p q at ps qs low rising_p rising_q named_p named_q each least.1 in
-    let at_greatest = reached n p q at ps qs high rising_p rising_q named_p named_q each greatest.1 in
-    (
+    let at_greatest = reached n p q at ps qs high rising_p rising_q named_p named_q each greatest.1 in (
       (λ h. elim h [
         | inl above ↦ inl (λ x y region. omega (
           arith,

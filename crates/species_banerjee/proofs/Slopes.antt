@@ -25,6 +25,7 @@ less_bound a b low high m x y above less below at_near at_wide at_far = by_lt_z 
   where
     next : (x +ℤ pos 1) ≤ℤ y
     next = omega (arith, ints)
+
     steeper : a <ℤ pos 0 → b <ℤ a → m ≤ℤ slope a b x y
     steeper ha hb =
         let up : pos 0 ≤ℤ (a -ℤ b) = omega (arith, ints) in
@@ -41,6 +42,7 @@ less_bound a b low high m x y above less below at_near at_wide at_far = by_lt_z 
           minus_mul a b low,
           minus_mul a b x,
         )
+
     flatter : a <ℤ pos 0 → a ≤ℤ b → m ≤ℤ slope a b x y
     flatter ha hb =
         let down : (a -ℤ b) ≤ℤ pos 0 = omega (arith, ints) in
@@ -58,15 +60,19 @@ less_bound a b low high m x y above less below at_near at_wide at_far = by_lt_z 
           minus_mul a b y,
           minus_mul a b high,
         )
+
     negative : a <ℤ pos 0 → m ≤ℤ slope a b x y
     negative ha = by_lt_z b a (steeper ha) (flatter ha)
+
     falling : pos 0 ≤ℤ a → b <ℤ pos 0 → m ≤ℤ slope a b x y
     falling ha hb =
         let down : b ≤ℤ pos 0 = omega (arith, ints) in
         let after : (low +ℤ pos 1) ≤ℤ y = omega (arith, ints) in
         omega (arith, ints, at_near, mul_up a low x ha above, mul_down b (low +ℤ pos 1) y down after)
+
     rising : pos 0 ≤ℤ a → pos 0 ≤ℤ b → m ≤ℤ slope a b x y
     rising ha hb = omega (arith, ints, at_wide, mul_up a low x ha above, mul_up b y high hb below)
+
     nonnegative : pos 0 ≤ℤ a → m ≤ℤ slope a b x y
     nonnegative ha = by_lt_z b (pos 0) (falling ha) (rising ha)
 

@@ -46,7 +46,7 @@ greatest_at_corners l a b low high w x y z corners spread = (
     ints,
     gap_negated l a b v,
     corners.below (neg_ℤ a) (neg_ℤ b) (neg_ℤ high) (negated l a b high w spread.above.0) (negated l a b high x spread.above.1)
-    (negated l a b high y spread.above.2) (negated l a b high z spread.above.3) v allowed,
+        (negated l a b high y spread.above.2) (negated l a b high z spread.above.3) v allowed,
   )),
   taken l a b high w x y z corners.allowed spread.greatest,
 )
@@ -67,3 +67,7 @@ gap_small l a b z usable allowed small_a small_b =
 pub taken_small : (l : LoopPair) (a b g : ℤ) → IsUsable l → unsigned_abs a < 2 ^ 70 → unsigned_abs b < 2 ^ 70 →
     (v : ℤ × ℤ) × Allows l v × (gap_of l a b v ≡ g) → unsigned_abs g ≤ 2 ^ 112
 taken_small l a b g usable small_a small_b at = subst (λ (z : ℤ). unsigned_abs z ≤ 2 ^ 112) at.2 (gap_small l a b at.0 usable at.1 small_a small_b)
+
+-- the extremes of numbers that are equal to others
+pub spread_of_same : (a b c d e f g h low high : ℤ) → a ≡ e → b ≡ f → c ≡ g → d ≡ h → AreSpread a b c d low high → AreSpread e f g h low high
+spread_of_same a b c d e f g h low high is_e is_f is_g is_h spread = rw (← is_e, ← is_f, ← is_g, ← is_h) spread

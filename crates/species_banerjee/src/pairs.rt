@@ -12,7 +12,7 @@ use species_linear::{Direction, LoopRange};
 use species_region::{level_of, range_or_zero};
 
 /// An entry of a direction vector: what it asks of the coordinates of two iterations at one level.
-#[derive(Clone, Copy, Debug, PartialEq, Eq)]
+#[derive(Clone, Copy)]
 pub(crate) enum Entry {
     /// They are equal.
     Equal,
@@ -25,7 +25,7 @@ pub(crate) enum Entry {
 }
 
 /// The loops of one level around the two references.
-#[derive(Clone, Copy, Debug, PartialEq, Eq)]
+#[derive(Clone, Copy)]
 pub(crate) struct LoopPair {
     pub entry: Entry,
     pub first: LoopRange,
@@ -33,7 +33,7 @@ pub(crate) struct LoopPair {
 }
 
 /// A pair of coordinates.
-#[derive(Clone, Copy, Debug, PartialEq, Eq)]
+#[derive(Clone, Copy)]
 struct Corner {
     first: i128,
     second: i128,
@@ -83,7 +83,7 @@ pub(crate) fn is_open(loops: LoopPair) -> bool
 }
 
 /// Four pairs of coordinates at which the extremes of any difference are taken.
-#[derive(Clone, Copy, Debug, PartialEq, Eq)]
+#[derive(Clone, Copy)]
 struct Corners {
     near: Corner,
     low: Corner,
@@ -91,7 +91,7 @@ struct Corners {
     far: Corner,
 }
 
-fn corners(loops: LoopPair) -> Corners
+fn corners_of(loops: LoopPair) -> Corners
     requires usable { IsUsable loops }
     requires inhabited { IsOpen loops }
     ensures { AreCorners loops (result.near.first, result.near.second) (result.low.first, result.low.second)
@@ -201,7 +201,7 @@ fn greater(first: i128, second: i128) -> i128
 }
 
 /// The least and the greatest of some numbers.
-#[derive(Clone, Copy, Debug, PartialEq, Eq)]
+#[derive(Clone, Copy)]
 pub(crate) struct Extremes {
     pub least: i128,
     pub greatest: i128,
@@ -226,7 +226,7 @@ pub(crate) fn extremes_of(loops: LoopPair, a: i128, b: i128) -> Extremes
     ensures greatest { IsGreatestOver (Allows loops) (gap_of loops a b) result.greatest }
     ensures small { (unsigned_abs result.least ≤ 2 ^ 112) × (unsigned_abs result.greatest ≤ 2 ^ 112) }
 {
-    let at = corners(loops);
+    let at = corners_of(loops);
     spread(
         gap(loops, a, b, at.near),
         gap(loops, a, b, at.low),

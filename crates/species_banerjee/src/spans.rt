@@ -9,7 +9,7 @@ ghost use Rattle.species_banerjee.specs.Span.{IsWithin, Moves};
 use species_linear::LoopRange;
 
 /// The coordinates from `first` to `last`; none where `first` is above `last`.
-#[derive(Clone, Copy, Debug, PartialEq, Eq)]
+#[derive(Clone, Copy)]
 pub(crate) struct Span {
     pub first: i128,
     pub last: i128,

@@ -36,6 +36,7 @@ divisor_next p q at ps qs n l g h next a b r s before is_level is_a is_b is_r is
   where
     as_level : (d : ℕ) → (d ∣ h → DividesLevel (nat_lt n l) d a b (unit_of r) (unit_of s)) → d ∣ h → DividesAt p q at ps qs n d
     as_level d f divides = rw (← is_level, ← is_a, ← is_b, ← is_r, ← is_s) (f divides)
+
     from_level : (d : ℕ) → DividesAt p q at ps qs n d → DividesLevel (nat_lt n l) d a b (unit_of r) (unit_of s)
     from_level d all = rw (is_level, is_a, is_b, is_r, is_s) all
 
@@ -66,8 +67,7 @@ pub total_decides : (n : ℕ) (p q : Form) (at : Direction) (ps qs : List LoopRa
 total_decides n p q at ps qs g total rising_p rising_q named_p named_q loops is total_is =
     let residual : total ≡ form_at p (residues_of ps) -ℤ form_at q (residues_of qs) =
     rw (difference_by_level p q n (residues_of ps) (residues_of qs) rising_p rising_q named_p named_q) total_is in
-    let decide = residues_decide n p q at ps qs g rising_p rising_q named_p named_q loops is.common in
-    (
+    let decide = residues_decide n p q at ps qs g rising_p rising_q named_p named_q loops is.common in (
       (λ h. decide.0 (dvd_same g _ _ (ap unsigned_abs residual) h)),
       (λ h. dvd_same g _ _ (ap unsigned_abs (sym residual)) (decide.1 h)),
     )

@@ -11,5 +11,5 @@ invariant-loop-level l = record {
   constant : l.constant ≡ residual_below l.p l.q l.p_path l.q_path l.level;
   small : unsigned_abs l.constant ≤ (1 + l.level) * 2 ^ 102;
   rising_first : 0 < l.level → IsRising l.p.terms;
-  rising_second : 0 < l.level → IsRising l.q.terms
+  rising_second : 0 < l.level → IsRising l.q.terms;
 }

@@ -17,8 +17,7 @@ returns-then-divisor-eq0 c =
 pub returns-else-divisor-eq0 : goal.returns-else-divisor-eq0
 returns-else-divisor-eq0 c =
     let size : c.unsigned_abs-size.result ≡ unsigned_abs c.args.number = rw (to_z-of_z w128 c.args.number c.ranges.number) at c.unsigned_abs-size.ensures.value in
-    let by_rest = dvd_iff_mod-eq-zero c.args.divisor {n = c.unsigned_abs-size.result} in
-    (
+    let by_rest = dvd_iff_mod-eq-zero c.args.divisor {n = c.unsigned_abs-size.result} in (
       (λ t. subst (λ (n : ℕ). c.args.divisor ∣ n) size (by_rest.1 (eqb-true (c.unsigned_abs-size.result % c.args.divisor) 0 t))),
       (λ divides. eq-eqb (c.unsigned_abs-size.result % c.args.divisor) 0 (by_rest.0 (subst (λ (n : ℕ). c.args.divisor ∣ n) (sym size) divides))),
     )
