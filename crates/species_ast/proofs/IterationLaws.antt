@@ -62,13 +62,13 @@ same_scope w xs h t = ap scope_of (same_steps w xs h t)
 set_same : (w : Context) (x : ℕ) (value : Sense) → w.may_set x ≡ true → setting w x value ≡ setting (Allowing w) x value
 set_same w x value may = λ i sp f.
     then_do (value.does sp 0 f) (λ v.
-        if may i then Ret (with_local f x (Some (converted (local_kind w x) v))) else Stop (site_at sp value.elements f []) Forbidden)
+    if may i then Ret (with_local f x (Some (converted (local_kind w x) v))) else Stop (site_at sp value.elements f []) Forbidden)
 
 addition_same : (w : Context) (a : ℕ) (atomic : Bool) (n : ℕ) (value : Sense) → (atomic ≡ true → w.may_add (array_kind w a) ≡ true)
     → addition w a atomic n value ≡ addition (Allowing w) a atomic n value
 addition_same w a true n value may = λ i sp is f.
     then_do (value.does sp (suc n) f) (λ v.
-        if may refl i then Add (site_at sp n f is) (element_at w a is) (converted (array_kind w a) v) (Ret f) else Stop (site_at sp n f is) Forbidden)
+    if may refl i then Add (site_at sp n f is) (element_at w a is) (converted (array_kind w a) v) (Ret f) else Stop (site_at sp n f is) Forbidden)
 addition_same w a false n value may = refl
 
 adding_same : (w : Context) (a : ℕ) (atomic : Bool) (subs : List Sense) (value : Sense) → (atomic ≡ true → w.may_add (array_kind w a) ≡ true)
@@ -84,35 +84,35 @@ add_leave w place a subs value false t is = absurd cc
 -- the law: where nothing is done that is not allowed, a statement does what it does where all is allowed
 pub step_same : (w : Context) (x : Stmt) → IsSame w x
 step_same w = stmt_ind (IsSame w) (record {
-    assign = λ place a subs value t. step-Assign w place a subs value ∙ sym (step-Assign (Allowing w) place a subs value);
-    add_to = λ place a subs value atomic t.
-        let may = add_leave w place a subs value atomic (sym (fold_stmt-AddTo (stays_at w) stays_in_loop place a subs value atomic) ∙ t) in
-        step-AddTo w place a subs value atomic
-        ∙ (λ i. plain (λ at. adding_same w a atomic (map (sense w) subs) (sense w value) may i (spot place at)))
-        ∙ sym (step-AddTo (Allowing w) place a subs value atomic);
-    declare = λ place x init t. step-Declare w place x init ∙ sym (step-Declare (Allowing w) place x init);
-    set_local = λ place x value t.
-        let may : w.may_set x ≡ true = sym (fold_stmt-SetLocal (stays_at w) stays_in_loop place x value) ∙ t in
-        step-SetLocal w place x value ∙ (λ i. plain (λ at. set_same w x (sense w value) may i (spot place at))) ∙ sym (step-SetLocal (Allowing w) place x value);
-    choice = λ place test body otherwise p q t.
-        let both = both_true (all_true (map (stays w) body)) (all_true (map (stays w) otherwise)) (sym (fold_stmt-If (stays_at w) stays_in_loop place test body otherwise) ∙ t) in
-        let first = same_steps w body p both.0 in
-        let second = same_steps w otherwise q both.1 in
-        step-If w place test body otherwise
-        ∙ (λ i. plain (λ at. branching (sense w test) (scope_of (first i) at 0) (scope_of (second i) at (length (first i))) (spot place at)))
-        ∙ sym (step-If (Allowing w) place test body otherwise);
-    loop = λ l p t.
-        let all : all_true (map (stays w) l.body) ≡ true = sym (fold_stmt-For (stays_at w) stays_in_loop (roll-Loop l) ∙ fold_loop (stays_at w) stays_in_loop l) ∙ t in
-        let body = same_steps w l.body p all in
-        step-For w (roll-Loop l)
-        ∙ (λ i. plain (λ at f. loop-roll w l at f i))
-        ∙ (λ i. plain (λ at. looping l.test l.step (sense w l.start) (sense w l.limit) (scope_of (body i) at 0) (spot l.place at)))
-        ∙ (λ i. plain (λ at f. sym (loop-roll (Allowing w) l at f) i))
-        ∙ sym (step-For (Allowing w) (roll-Loop l));
-    block = λ body p t.
-        let all : all_true (map (stays w) body) ≡ true = sym (fold_stmt-Block (stays_at w) stays_in_loop body) ∙ t in
-        let same = same_steps w body p all in
-        step-Block w body ∙ (λ i. plain (λ at. scope_of (same i) at 0)) ∙ sym (step-Block (Allowing w) body)
+  assign = λ place a subs value t. step-Assign w place a subs value ∙ sym (step-Assign (Allowing w) place a subs value);
+  add_to = λ place a subs value atomic t.
+      let may = add_leave w place a subs value atomic (sym (fold_stmt-AddTo (stays_at w) stays_in_loop place a subs value atomic) ∙ t) in
+      step-AddTo w place a subs value atomic
+      ∙ (λ i. plain (λ at. adding_same w a atomic (map (sense w) subs) (sense w value) may i (spot place at)))
+      ∙ sym (step-AddTo (Allowing w) place a subs value atomic);
+  declare = λ place x init t. step-Declare w place x init ∙ sym (step-Declare (Allowing w) place x init);
+  set_local = λ place x value t.
+      let may : w.may_set x ≡ true = sym (fold_stmt-SetLocal (stays_at w) stays_in_loop place x value) ∙ t in
+      step-SetLocal w place x value ∙ (λ i. plain (λ at. set_same w x (sense w value) may i (spot place at))) ∙ sym (step-SetLocal (Allowing w) place x value);
+  choice = λ place test body otherwise p q t.
+      let both = both_true (all_true (map (stays w) body)) (all_true (map (stays w) otherwise)) (sym (fold_stmt-If (stays_at w) stays_in_loop place test body otherwise) ∙ t) in
+      let first = same_steps w body p both.0 in
+      let second = same_steps w otherwise q both.1 in
+      step-If w place test body otherwise
+      ∙ (λ i. plain (λ at. branching (sense w test) (scope_of (first i) at 0) (scope_of (second i) at (length (first i))) (spot place at)))
+      ∙ sym (step-If (Allowing w) place test body otherwise);
+  loop = λ l p t.
+      let all : all_true (map (stays w) l.body) ≡ true = sym (fold_stmt-For (stays_at w) stays_in_loop (roll-Loop l) ∙ fold_loop (stays_at w) stays_in_loop l) ∙ t in
+      let body = same_steps w l.body p all in
+      step-For w (roll-Loop l)
+      ∙ (λ i. plain (λ at f. loop-roll w l at f i))
+      ∙ (λ i. plain (λ at. looping l.test l.step (sense w l.start) (sense w l.limit) (scope_of (body i) at 0) (spot l.place at)))
+      ∙ (λ i. plain (λ at f. sym (loop-roll (Allowing w) l at f) i))
+      ∙ sym (step-For (Allowing w) (roll-Loop l));
+  block = λ body p t.
+      let all : all_true (map (stays w) body) ≡ true = sym (fold_stmt-Block (stays_at w) stays_in_loop body) ∙ t in
+      let same = same_steps w body p all in
+      step-Block w body ∙ (λ i. plain (λ at. scope_of (same i) at 0)) ∙ sym (step-Block (Allowing w) body);
 })
 
 -- so an iteration that stays within its leave does what its body does in the source
