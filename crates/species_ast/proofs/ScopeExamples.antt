@@ -790,3 +790,34 @@ constant_step : answers by_two (unit [] [] (stmt.For (roll-Loop (record {
   mark = mark.Plain;
 })) ∷ []))
 constant_step = answer by_two _ (simp folded refl)
+
+-- `void k(void) { int i; for (i = 0; i < 4; i++) ; for (i = 0; i < 4; i++) ; }`
+abbrev two_loops : KnownProgram
+two_loops = program [] k_at_5 (declare 15 kind.Int (plain 19 "i" ∷ []) ∷ old_loop 22 "i" (num 31 0) (empty 46) ∷ old_loop 48 "i" (num 57 0) (empty 72) ∷ [])
+
+one_local_twice : answers two_loops (unit [] [] (loop_to_4 22 "i" [] ∷ loop_to_4 48 "i" [] ∷ []))
+one_local_twice = answer two_loops _ (simp folded refl)
+
+-- a bound that is not affine, and behind it a name without a meaning: names are looked at first
+abbrev bound_then_name : KnownProgram
+bound_then_name = program [] k_at_5 (declare 15 kind.Int (plain 19 "n" ∷ []) ∷ count_up 22 "i" (var 42 "n") (set 50 (spot 50 "x" []) op.Plain (num 54 1)) ∷ [])
+
+names_before_bounds : answers bound_then_name (refused Refusal.Unknown 50)
+names_before_bounds = answer bound_then_name _ refl
+
+-- a bound that is not affine, and a bad step: the `for` stands before the bound
+abbrev bad_loop : KnownProgram
+bad_loop = program [] k_at_5 (declare 15 kind.Int (plain 19 "n" ∷ []) ∷ loop 22 (record {
+  parallel = None;
+  typed = true;
+  iter = at 31 "i";
+  start = num 35 0;
+  tested = at 38 "i";
+  test = test.Ge;
+  limit = var 43 "n";
+  step = plus_plus 46 "i";
+  body = empty 51;
+}) ∷ [])
+
+step_before_bound : answers bad_loop (refused Refusal.BadStep 22)
+step_before_bound = answer bad_loop _ (simp folded refl)
