@@ -41,28 +41,28 @@ use Rattle.species_ast.specs.declared.raw.RawLoop.{roll-RawLoop}
 use Rattle.species_ast.specs.declared.raw.RawWhat.TheVariants as what
 use Rattle.species_ast.specs.declared.raw.RawUnit.{RawUnit}
 use Rattle.species_ast.specs.Scope.Meanings.{Scope}
-use Rattle.species_ast.specs.Scope.Expressions.{Reading, Target, reading, target_of, taken, two_parts}
+use Rattle.species_ast.specs.Scope.Expressions.{ExprReading, Target, reading, target_in, taken, two_parts}
 use Rattle.species_ast.specs.Scope.Statements.{Walk, StepReading, step_by, step_one, step_reading, in_order, local_piece, declarator, change_by, change_by_one, operated, increased, combined, atomic_piece, if_piece, block_piece, empty_piece, loop_piece, stmt_piece}
-use Rattle.species_ast.specs.Scope.Programs.{SizeParts, size_parts, ArrayParts, Program, program_with, settled, program_of, arrays_of, header_of}
+use Rattle.species_ast.specs.Scope.Programs.{SizeParts, size_parts, ArrayParts, Program, program_with, in_two_walks, program_of, arrays_of, header_of}
 use Rattle.species_ast.specs.Scope.Refusals.{Limit, Refusal, Finding}
 use Rattle.species_ast.specs.Scope.Limits.{NestLimits}
 use Rattle.species_ast.specs.Scope.WellMade.{Around, list_holds, made}
 use Rattle.species_ast.specs.Scope.Conditions.{answer_of, resolved}
 use Rattle.species_ast.proofs.Folds.{fold_expr-Literal, fold_expr-Iter, fold_expr-Local, fold_expr-Elem, fold_expr-Unary, fold_expr-Binary, fold_stmt-Assign, fold_stmt-AddTo, fold_stmt-Declare, fold_stmt-SetLocal, fold_stmt-If, fold_stmt-For, fold_stmt-Block, fold_loop}
-use Rattle.species_ast.proofs.ScopeLaws.{reading-Number, reading-Target, reading-Binary, readings, target_with, target_of-target, stmt_piece-Declare, stmt_piece-Block, stmt_piece-Empty, stmt_piece-If, stmt_piece-IfElse, stmt_piece-Change, stmt_piece-Atomic, stmt_piece-Loop}
+use Rattle.species_ast.proofs.ScopeLaws.{reading-Number, reading-Target, reading-Binary, readings, target_with, target_in-target, stmt_piece-Declare, stmt_piece-Block, stmt_piece-Empty, stmt_piece-If, stmt_piece-IfElse, stmt_piece-Change, stmt_piece-Atomic, stmt_piece-Loop}
 
 -- ---- expressions
 
 -- an expression, and what it becomes
 record Known : Type 0 where
   raw : RawExpr
-  reads : Scope → Reading
+  reads : Scope → ExprReading
   is : reading raw ≡ reads
 
 abbrev raws : List Known → List RawExpr
 raws es = map (λ e. e.raw) es
 
-abbrev reads_of : List Known → Scope → List Reading
+abbrev reads_of : List Known → Scope → List ExprReading
 reads_of es s = map (λ e. e.reads s) es
 
 readings_are : (es : List Known) → readings (raws es) ≡ reads_of es
@@ -84,13 +84,13 @@ num p n = record {
 record KnownTarget : Type 0 where
   raw : RawTarget
   reads : Scope → Target
-  is : target_of raw ≡ reads
+  is : target_in raw ≡ reads
 
 abbrev spot : ℕ → String → List Known → KnownTarget
 spot p n subs = record {
   raw = target (at p n) (raws subs);
   reads = λ s. target_with (at p n) (reads_of subs s) s;
-  is = (λ i s. target_of-target (at p n) (raws subs) s i) ∙ (λ i s. target_with (at p n) (readings_are subs i s) s);
+  is = (λ i s. target_in-target (at p n) (raws subs) s i) ∙ (λ i s. target_with (at p n) (readings_are subs i s) s);
 }
 
 -- .. and as an operand
@@ -164,7 +164,7 @@ atomic p t e = record {
 -- a name with its initialiser
 record KnownLocal : Type 0 where
   raw : RawLocal
-  reads : Option (Scope → Reading)
+  reads : Option (Scope → ExprReading)
   is : option_map reading raw.init ≡ reads
 
 abbrev plain : ℕ → String → KnownLocal
@@ -350,8 +350,8 @@ record KnownProgram : Type 0 where
 abbrev program : List KnownArray → Spelling → List Does → KnownProgram
 program xs f ss = record {
   raw = record { items = raw_items xs; function = f; body = raw_stmts ss };
-  program = settled (program_with [] (array_parts xs) f (walks ss));
-  is = λ i. settled (program_with (no_headers xs i) (arrays_are xs i) f (walks_are ss i));
+  program = in_two_walks (program_with [] (array_parts xs) f (walks ss));
+  is = λ i. in_two_walks (program_with (no_headers xs i) (arrays_are xs i) f (walks_are ss i));
 }
 
 -- limits of ranges and references that nothing passes
@@ -376,7 +376,7 @@ k_at_5 = at 5 "k"
 -- the forms of expressions and the fronts of loops, part by part
 ruleset folded = (fold_expr-Literal, fold_expr-Iter, fold_expr-Local, fold_expr-Elem, fold_expr-Unary, fold_expr-Binary, fold_stmt-Assign, fold_stmt-AddTo, fold_stmt-Declare, fold_stmt-SetLocal, fold_stmt-If, fold_stmt-For, fold_stmt-Block, fold_loop)
 
--- Each example: the text, the program with its places, and the answer.
+-- Each example: the text, the program with its places, and the answer. Places that no answer has may be made up.
 
 -- `int A[4]; `
 abbrev a4 : KnownArray
@@ -458,39 +458,39 @@ old_loop p n start s = loop p (record {
 
 -- `int A[4]; void k(void) { for (A = 0; A < 4; A++) ; }`
 abbrev over_array : KnownProgram
-over_array = program (a4 ∷ []) k_at_15 (old_loop 25 "A" (num 34 0) (empty 46) ∷ [])
+over_array = program (a4 ∷ []) k_at_15 (old_loop 25 "A" (num 34 0) (empty 49) ∷ [])
 
 array_as_iterator : answers over_array (refused Refusal.IteratorAssigned 30)
 array_as_iterator = answer over_array _ refl
 
 -- `void k(void) { int i = 0; for (i = 0; i < 4; i++) ; }`
 abbrev over_initialised : KnownProgram
-over_initialised = program [] k_at_5 (declare 15 kind.Int (with_value 19 "i" (num 23 0) ∷ []) ∷ old_loop 26 "i" (num 35 0) (empty 47) ∷ [])
+over_initialised = program [] k_at_5 (declare 15 kind.Int (with_value 19 "i" (num 23 0) ∷ []) ∷ old_loop 26 "i" (num 35 0) (empty 50) ∷ [])
 
 initialised_iterator : answers over_initialised (refused Refusal.IteratorAssigned 31)
 initialised_iterator = answer over_initialised _ refl
 
 -- `void k(void) { int i; for (i = 0; i < 4; i++) for (i = 0; i < 4; i++) ; }`
 abbrev over_itself : KnownProgram
-over_itself = program [] k_at_5 (declare 15 kind.Int (plain 19 "i" ∷ []) ∷ old_loop 22 "i" (num 31 0) (old_loop 46 "i" (num 55 0) (empty 67)) ∷ [])
+over_itself = program [] k_at_5 (declare 15 kind.Int (plain 19 "i" ∷ []) ∷ old_loop 22 "i" (num 31 0) (old_loop 46 "i" (num 55 0) (empty 70)) ∷ [])
 
 iterator_of_loop_around : answers over_itself (refused Refusal.IteratorAssigned 51)
 iterator_of_loop_around = answer over_itself _ refl
 
 -- `void k(void) { for (i = 0; i < 4; i++) ; }`
-unknown_iterator : answers (program [] k_at_5 (old_loop 15 "i" (num 24 0) (empty 36) ∷ [])) (refused Refusal.Unknown 20)
-unknown_iterator = answer (program [] k_at_5 (old_loop 15 "i" (num 24 0) (empty 36) ∷ [])) _ refl
+unknown_iterator : answers (program [] k_at_5 (old_loop 15 "i" (num 24 0) (empty 39) ∷ [])) (refused Refusal.Unknown 20)
+unknown_iterator = answer (program [] k_at_5 (old_loop 15 "i" (num 24 0) (empty 39) ∷ [])) _ refl
 
 -- `void k(void) { int i; for (i = i; i < 4; i++) ; }`
 abbrev from_itself : KnownProgram
-from_itself = program [] k_at_5 (declare 15 kind.Int (plain 19 "i" ∷ []) ∷ old_loop 22 "i" (var 31 "i") (empty 43) ∷ [])
+from_itself = program [] k_at_5 (declare 15 kind.Int (plain 19 "i" ∷ []) ∷ old_loop 22 "i" (var 31 "i") (empty 46) ∷ [])
 
 start_outside : answers from_itself (refused Refusal.IteratorOutside 31)
 start_outside = answer from_itself _ refl
 
 -- `void k(void) { int i; i = 1; for (i = 0; i < 4; i++) ; }`
 abbrev set_before : KnownProgram
-set_before = program [] k_at_5 (declare 15 kind.Int (plain 19 "i" ∷ []) ∷ set 22 (spot 22 "i" []) op.Plain (num 26 1) ∷ old_loop 29 "i" (num 38 0) (empty 50) ∷ [])
+set_before = program [] k_at_5 (declare 15 kind.Int (plain 19 "i" ∷ []) ∷ set 22 (spot 22 "i" []) op.Plain (num 26 1) ∷ old_loop 29 "i" (num 38 0) (empty 53) ∷ [])
 
 used_outside : answers set_before (refused Refusal.IteratorOutside 22)
 used_outside = answer set_before _ refl
@@ -498,10 +498,24 @@ used_outside = answer set_before _ refl
 -- `void k(void) { int i; i = 1; { int i; for (i = 0; i < 4; i++) ; } }`: the loop's iterator is the later `i`
 abbrev later_local : KnownProgram
 later_local = program [] k_at_5 (declare 15 kind.Int (plain 19 "i" ∷ []) ∷ set 22 (spot 22 "i" []) op.Plain (num 26 1)
-    ∷ block 29 (declare 31 kind.Int (plain 35 "i" ∷ []) ∷ old_loop 38 "i" (num 47 0) (empty 59) ∷ []) ∷ [])
+    ∷ block 29 (declare 31 kind.Int (plain 35 "i" ∷ []) ∷ old_loop 38 "i" (num 47 0) (empty 62) ∷ []) ∷ [])
 
 later_declaration : answers later_local (refused Refusal.Duplicate 35)
 later_declaration = answer later_local _ refl
+
+-- `void k(void) { unsigned i; i = 1; for (i = 0; i < 4; i++) ; }`: the loop is refused, and its local counts as an iterator
+abbrev unsigned_iterator : KnownProgram
+unsigned_iterator = program [] k_at_5 (declare 15 kind.Unsigned (plain 24 "i" ∷ []) ∷ set 27 (spot 27 "i" []) op.Plain (num 31 1) ∷ old_loop 34 "i" (num 43 0) (empty 58) ∷ [])
+
+used_before_refused_loop : answers unsigned_iterator (refused Refusal.IteratorOutside 27)
+used_before_refused_loop = answer unsigned_iterator _ refl
+
+-- an atomic addition to an iterator
+abbrev atomic_iterator : KnownProgram
+atomic_iterator = program [] k_at_5 (count_up 15 "i" (num 35 4) (atomic 70 (spot 70 "i" []) (num 75 1)) ∷ [])
+
+atomic_on_iterator : answers atomic_iterator (refused Refusal.IteratorAssigned 70)
+atomic_on_iterator = answer atomic_iterator _ refl
 
 -- ---- bounds, sizes and steps
 
@@ -632,6 +646,20 @@ triangle = program [] k_at_5 (marked 2 20 "i" (num 40 4) (count_up 60 "j" (var 8
 marked_triangle : answers triangle (refused Refusal.BadMark 20)
 marked_triangle = answer triangle _ (simp folded refl)
 
+-- the same where the first loop's iterator cancels out
+abbrev cancelled : KnownProgram
+cancelled = program [] k_at_5 (marked 2 20 "i" (num 40 4) (count_up 60 "j" (bin 80 binary.Sub (var 80 "i") (var 84 "i")) (empty 90)) ∷ [])
+
+marked_cancelled : answers cancelled (refused Refusal.BadMark 20)
+marked_cancelled = answer cancelled _ (simp folded refl)
+
+-- `int A[16777217]; void k(void) { }`
+abbrev large : KnownProgram
+large = program (record { name = at 4 "A"; sizes = num 6 16777217 ∷ [] } ∷ []) (at 22 "k") []
+
+large_array : answers large (refused (Refusal.LimitPassed Limit.Elements) 4)
+large_array = answer large _ (simp folded refl)
+
 -- a mark of depth 2, and one loop
 abbrev shallow : KnownProgram
 shallow = program [] k_at_5 (marked 2 20 "i" (num 40 4) (empty 90) ∷ [])
@@ -687,10 +715,10 @@ increments = answer changes _ (simp folded refl)
 
 -- `void k(void) { int i, x; for (i = 0; i < 4; i++) x = i; }`: `i` leaves nothing behind, so `x` has the number 0
 abbrev two_locals : KnownProgram
-two_locals = program [] k_at_5 (declare 15 kind.Int (plain 19 "i" ∷ plain 22 "x" ∷ []) ∷ old_loop 25 "i" (num 34 0) (set 46 (spot 46 "x" []) op.Plain (var 50 "i")) ∷ [])
+two_locals = program [] k_at_5 (declare 15 kind.Int (plain 19 "i" ∷ plain 22 "x" ∷ []) ∷ old_loop 25 "i" (num 34 0) (set 49 (spot 49 "x" []) op.Plain (var 53 "i")) ∷ [])
 
 numbers_of_locals : answers two_locals (unit [] (int_local "x" ∷ []) (
-    stmt.Declare 22 0 None ∷ loop_to_4 25 "i" (stmt.SetLocal 46 0 (expr.Iter 0) ∷ []) ∷ []))
+    stmt.Declare 22 0 None ∷ loop_to_4 25 "i" (stmt.SetLocal 49 0 (expr.Iter 0) ∷ []) ∷ []))
 numbers_of_locals = answer two_locals _ (simp folded refl)
 
 -- `void k(void) { { int x; { } } { int x; ; } }`: two locals of one name, and a block in a block
@@ -762,3 +790,34 @@ constant_step : answers by_two (unit [] [] (stmt.For (roll-Loop (record {
   mark = mark.Plain;
 })) ∷ []))
 constant_step = answer by_two _ (simp folded refl)
+
+-- `void k(void) { int i; for (i = 0; i < 4; i++) ; for (i = 0; i < 4; i++) ; }`
+abbrev two_loops : KnownProgram
+two_loops = program [] k_at_5 (declare 15 kind.Int (plain 19 "i" ∷ []) ∷ old_loop 22 "i" (num 31 0) (empty 46) ∷ old_loop 48 "i" (num 57 0) (empty 72) ∷ [])
+
+one_local_twice : answers two_loops (unit [] [] (loop_to_4 22 "i" [] ∷ loop_to_4 48 "i" [] ∷ []))
+one_local_twice = answer two_loops _ (simp folded refl)
+
+-- a bound that is not affine, and behind it a name without a meaning: names are looked at first
+abbrev bound_then_name : KnownProgram
+bound_then_name = program [] k_at_5 (declare 15 kind.Int (plain 19 "n" ∷ []) ∷ count_up 22 "i" (var 42 "n") (set 50 (spot 50 "x" []) op.Plain (num 54 1)) ∷ [])
+
+names_before_bounds : answers bound_then_name (refused Refusal.Unknown 50)
+names_before_bounds = answer bound_then_name _ refl
+
+-- a bound that is not affine, and a bad step: the `for` stands before the bound
+abbrev bad_loop : KnownProgram
+bad_loop = program [] k_at_5 (declare 15 kind.Int (plain 19 "n" ∷ []) ∷ loop 22 (record {
+  parallel = None;
+  typed = true;
+  iter = at 31 "i";
+  start = num 35 0;
+  tested = at 38 "i";
+  test = test.Ge;
+  limit = var 43 "n";
+  step = plus_plus 46 "i";
+  body = empty 51;
+}) ∷ [])
+
+step_before_bound : answers bad_loop (refused Refusal.BadStep 22)
+step_before_bound = answer bad_loop _ (simp folded refl)

@@ -11,6 +11,9 @@
 --     Written         what holds of each tree that is read
 --     WellMade        the units that passes take and give
 --     Law             the reported refusal is the first
+-- Not here: what Hull, Bound and References say (with ranges and references); when two units differ in places alone (with the
+-- printed text); that a lawful program becomes a well made unit (with the code that resolves names); the refusals of the text
+-- and the grammar, which come before these, and those of species lines and of data, which come after.
 pub mod Forms
 pub mod Meanings
 pub mod Expressions

@@ -30,7 +30,7 @@ is_declaration role = false
 abbrev pub is_unknown : Occurrence → Bool
 is_unknown o = not (is_declaration o.role) && is_none (usable o.means)
 
--- Duplicate: a name is declared while the same name is in scope; the function's is, in its body
+-- Duplicate: a name is declared where it already has a meaning; the function's name has one in its body
 abbrev pub is_duplicate : Occurrence → Bool
 is_duplicate o = is_declaration o.role && is_some o.means
 

@@ -10,10 +10,10 @@ use Rattle.species_ast.specs.declared.raw.RawUnary.TheVariants as raw_unary
 use Rattle.species_ast.specs.declared.raw.RawExpr.{RawExpr, fold-RawExpr}
 use Rattle.species_ast.specs.declared.raw.RawTarget.{RawTarget, fold-RawTarget}
 use Rattle.species_ast.specs.declared.raw.RawTerm.TheOpen.{RawTerm-F, RawExpr-F, RawTarget-F}
-use Rattle.species_ast.specs.Scope.Meanings.{Meaning, Local, Scope, meaning_of, number_of, Taken, Occurrence, occurrence}
+use Rattle.species_ast.specs.Scope.Meanings.{Meaning, Local, Scope, meaning_of, local_number, Taken, Occurrence, occurrence}
 
 -- an expression of a unit, and the names that stand in it
-pub record Reading : Type 0 where
+pub record ExprReading : Type 0 where
   pub expr : Expr
   pub names : List Occurrence
 
@@ -24,10 +24,10 @@ pub record Target : Type 0 where
   pub subs : List Expr
   pub names : List Occurrence
 
-abbrev pub exprs_of : List Reading → List Expr
+abbrev pub exprs_of : List ExprReading → List Expr
 exprs_of rs = map (λ r. r.expr) rs
 
-abbrev pub names_of : List Reading → List Occurrence
+abbrev pub names_of : List ExprReading → List Occurrence
 names_of rs = flat_map (λ r. r.names) rs
 
 -- what stands for a name without a meaning, which no lawful program has
@@ -39,7 +39,7 @@ abbrev pub value_of : Scope → Target → Expr
 value_of s t = elim t.means [
   | Some m ↦ elim m [
     | Meaning.Array a n ↦ expr.Elem a t.subs
-    | Meaning.Variable x ↦ expr.Local (number_of s x.serial)
+    | Meaning.Variable x ↦ expr.Local (local_number s x.serial)
     | Meaning.Iterator level ↦ expr.Iter level
     | Meaning.Function ↦ nothing
   ]
@@ -47,7 +47,7 @@ value_of s t = elim t.means [
 ]
 
 -- a target whose value is taken
-abbrev pub taken : Scope → Target → Reading
+abbrev pub taken : Scope → Target → ExprReading
 taken s t = record { expr = value_of s t; names = occurrence (Taken (length t.subs)) s t.name ∷ t.names }
 
 -- unary `+` leaves nothing behind
@@ -57,13 +57,13 @@ unary_expr raw_unary.Plus e = e
 unary_expr raw_unary.Not e = expr.Unary unary.Not e
 unary_expr raw_unary.LogNot e = expr.Unary unary.LogNot e
 
-abbrev pub one_part : (Expr → Expr) → Reading → Reading
+abbrev pub one_part : (Expr → Expr) → ExprReading → ExprReading
 one_part make a = record { expr = make a.expr; names = a.names }
 
-abbrev pub two_parts : (Expr → Expr → Expr) → Reading → Reading → Reading
+abbrev pub two_parts : (Expr → Expr → Expr) → ExprReading → ExprReading → ExprReading
 two_parts make a b = record { expr = make a.expr b.expr; names = a.names ++ b.names }
 
-abbrev pub term_at : Scope → RawTerm-F Reading Reading Target → Reading
+abbrev pub term_at : Scope → RawTerm-F ExprReading ExprReading Target → ExprReading
 term_at s (RawTerm-F.Number v) = record { expr = expr.Literal v; names = [] }
 term_at s (RawTerm-F.Target t) = taken s t
 term_at s (RawTerm-F.Paren a) = a
@@ -74,16 +74,16 @@ term_at s (RawTerm-F.And a b) = two_parts expr.And a b
 term_at s (RawTerm-F.Or a b) = two_parts expr.Or a b
 term_at s (RawTerm-F.Cond c a b) = record { expr = expr.Cond c.expr a.expr b.expr; names = c.names ++ (a.names ++ b.names) }
 
-abbrev pub expr_at : RawExpr-F Reading Reading Target → Reading
+abbrev pub expr_at : RawExpr-F ExprReading ExprReading Target → ExprReading
 expr_at e = e.what
 
-abbrev pub target_at : Scope → RawTarget-F Reading Reading Target → Target
+abbrev pub target_at : Scope → RawTarget-F ExprReading ExprReading Target → Target
 target_at s t = record { name = t.name; means = meaning_of s t.name; subs = exprs_of t.subs; names = names_of t.subs }
 
 -- What an expression becomes in a scope, and the names in it.
-abbrev pub reading : RawExpr → Scope → Reading
-reading e s = fold-RawExpr Reading Reading Target (term_at s) expr_at (target_at s) e
+abbrev pub reading : RawExpr → Scope → ExprReading
+reading e s = fold-RawExpr ExprReading ExprReading Target (term_at s) expr_at (target_at s) e
 
 -- What a target means in a scope, and the names in its subscripts.
-abbrev pub target_of : RawTarget → Scope → Target
-target_of t s = fold-RawTarget Reading Reading Target (term_at s) expr_at (target_at s) t
+abbrev pub target_in : RawTarget → Scope → Target
+target_in t s = fold-RawTarget ExprReading ExprReading Target (term_at s) expr_at (target_at s) t

@@ -8,7 +8,8 @@ use Rattle.species_ast.specs.declared.tree.Binary.TheVariants.{Mul, Add, Sub}
 use Rattle.species_ast.specs.declared.tree.Expr.{Expr, fold-Expr}
 use Rattle.species_ast.specs.declared.tree.Expr.TheOpen.{Expr-F}
 
--- A constant, and the coefficients of the iterators: that of level 0 first, and 0 for each level past the end.
+-- A constant, and the coefficients of the iterators: that of level 0 first, and 0 for each level past the end. So `i - i` and
+-- `0` have one form under two spellings: forms are compared by their constants and by `coefficient_at`.
 pub record Form : Type 0 where
   pub constant : ℤ
   pub coefficients : List ℤ

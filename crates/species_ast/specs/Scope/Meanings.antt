@@ -29,7 +29,7 @@ pub record Scope : Type 0 where
   pub in_nest : Bool
   -- how many locals are declared before it, in this scope or another
   pub serials : ℕ
-  -- the same in the whole program: the serial numbers of the locals that loops without `int` have as their iterators
+  -- the serial numbers of the locals that loops without `int` have as their iterators; these do not change from place to place
   pub iterators : List ℕ
 
 abbrev pub meaning_in : List (List ℕ × Meaning) → List ℕ → Option Meaning
@@ -69,8 +69,8 @@ count_before iterators zero = 0
 count_before iterators (suc n) = if is_among iterators n then count_before iterators n else suc (count_before iterators n)
 
 -- the number of a local: those that are the iterators of loops have none, and are not counted
-abbrev pub number_of : Scope → ℕ → ℕ
-number_of s serial = count_before s.iterators serial
+abbrev pub local_number : Scope → ℕ → ℕ
+local_number s serial = count_before s.iterators serial
 
 -- ---- occurrences
 

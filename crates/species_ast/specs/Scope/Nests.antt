@@ -23,8 +23,12 @@ front_step (Stmt-F.For loops) = loops
 front_step (Stmt-F.Block body) = only_loops body
 front_step s = []
 
+-- a loop with these bounds, and the loops that are perfectly nested in it
+abbrev pub front_with : Expr → Expr → List (List Bounds) → List Bounds
+front_with start limit body = record { start = start; limit = limit } ∷ only_loops body
+
 abbrev pub front_layer : Loop-F (List Bounds) (List Bounds) → List Bounds
-front_layer l = record { start = l.start; limit = l.limit } ∷ only_loops l.body
+front_layer l = front_with l.start l.limit l.body
 
 -- The bounds of a loop and of the loops that are perfectly nested in it: the body of each but the last is one loop.
 abbrev pub front_of : Loop → List Bounds

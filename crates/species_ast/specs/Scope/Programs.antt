@@ -13,7 +13,7 @@ use Rattle.species_ast.specs.declared.raw.RawUnit.{RawUnit}
 use Rattle.species_ast.specs.Grammar.Expressions.{place_of}
 use Rattle.species_ast.specs.Scope.Forms.{constant_of}
 use Rattle.species_ast.specs.Scope.Meanings.{Meaning, Scope, declared, Role, Declared, Iterates, Occurrence, occurrence}
-use Rattle.species_ast.specs.Scope.Expressions.{Reading, reading, names_of}
+use Rattle.species_ast.specs.Scope.Expressions.{ExprReading, reading, names_of}
 use Rattle.species_ast.specs.Scope.Statements.{LoopSite, Walk, in_order, stmt_piece}
 
 -- ---- arrays
@@ -48,7 +48,7 @@ extent None = 0
 -- the expression of a size: its place, and what it becomes
 pub record SizeParts : Type 0 where
   pub place : ℕ
-  pub reads : Scope → Reading
+  pub reads : Scope → ExprReading
 
 -- an array: its kind, its name and its sizes
 pub record ArrayParts : Type 0 where
@@ -119,13 +119,13 @@ abbrev pub iterators_of : List Occurrence → List ℕ
 iterators_of names = filter_map (λ o. local_in o.role o.means) names
 
 -- A first walk tells what the names mean, and so which locals are the iterators of loops; a second, which knows these, tells
--- what becomes of the program.
-abbrev pub settled : (List ℕ → Program) → Program
-settled walk =
+-- what becomes of the program. Names mean the same in both; those of the first are kept, as that is where they are looked at.
+abbrev pub in_two_walks : (List ℕ → Program) → Program
+in_two_walks walk =
     let names = (walk []).names in
     let second = walk (iterators_of names) in
     record second { names = names }
 
 -- What a program becomes.
 abbrev pub program_of : RawUnit → Program
-program_of u = settled (program_with (filter_map header_of u.items) (flat_map arrays_of u.items) u.function (map stmt_piece u.body))
+program_of u = in_two_walks (program_with (filter_map header_of u.items) (flat_map arrays_of u.items) u.function (map stmt_piece u.body))

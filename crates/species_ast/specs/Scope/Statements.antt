@@ -28,8 +28,8 @@ use Rattle.species_ast.specs.declared.raw.RawStmt.{RawStmt, fold-RawStmt}
 use Rattle.species_ast.specs.declared.raw.RawWhat.TheOpen.{RawWhat-F, RawStmt-F, RawLoop-F}
 use Rattle.species_ast.specs.Grammar.Expressions.{place_of}
 use Rattle.species_ast.specs.Scope.Forms.{constant_of}
-use Rattle.species_ast.specs.Scope.Meanings.{Meaning, Scope, with_local, in_loop, behind, is_among, number_of, Role, Declared, Set, Iterates, InHeader, Occurrence, occurrence}
-use Rattle.species_ast.specs.Scope.Expressions.{Reading, Target, reading, target_of, value_of}
+use Rattle.species_ast.specs.Scope.Meanings.{Meaning, Scope, with_local, in_loop, behind, is_among, local_number, Role, Declared, Set, Iterates, InHeader, Occurrence, occurrence}
+use Rattle.species_ast.specs.Scope.Expressions.{ExprReading, Target, reading, target_in, value_of}
 use Rattle.species_ast.specs.Scope.Nests.{is_parallel}
 
 -- ---- what is noted
@@ -93,11 +93,11 @@ in_order (p ∷ ps) s =
 -- ---- declarations (C17 6.7)
 
 -- a local that its declaration keeps: its number is that of the locals before it that are kept too
-abbrev pub kept_local : Kind → Spelling → Option Reading → Scope → List Stmt
-kept_local k name init s = stmt.Declare name.place (number_of s s.serials) (option_map (λ r. r.expr) init) ∷ []
+abbrev pub kept_local : Kind → Spelling → Option ExprReading → Scope → List Stmt
+kept_local k name init s = stmt.Declare name.place (local_number s s.serials) (option_map (λ r. r.expr) init) ∷ []
 
 -- A local is in scope in its own initialiser. One that is the iterator of a loop leaves nothing behind.
-abbrev pub local_piece : Kind → Spelling → Option (Scope → Reading) → Walk
+abbrev pub local_piece : Kind → Spelling → Option (Scope → ExprReading) → Walk
 local_piece k name init s =
     let inner = with_local name (record { serial = s.serials; kind = k; initialised = is_some init }) s in
     let value = option_map (λ read. read inner) init in
@@ -118,7 +118,7 @@ abbrev pub assigned : Scope → ℕ → Target → Expr → List Stmt
 assigned s p t v = elim t.means [
   | Some m ↦ elim m [
     | Meaning.Array a n ↦ stmt.Assign p a t.subs v ∷ []
-    | Meaning.Variable x ↦ stmt.SetLocal p (number_of s x.serial) v ∷ []
+    | Meaning.Variable x ↦ stmt.SetLocal p (local_number s x.serial) v ∷ []
     | Meaning.Iterator level ↦ []
     | Meaning.Function ↦ []
   ]
@@ -160,7 +160,7 @@ abbrev pub set_names : Scope → Target → List Occurrence
 set_names s t = occurrence (Set (length t.subs)) s t.name ∷ t.names
 
 -- a change of a target by a value, and one of a target alone
-abbrev pub change_by : (Scope → Target → Expr → List Stmt) → (Scope → Target) → (Scope → Reading) → Walk
+abbrev pub change_by : (Scope → Target → Expr → List Stmt) → (Scope → Target) → (Scope → ExprReading) → Walk
 change_by becomes target value s =
     let t = target s in
     let v = value s in
@@ -170,14 +170,14 @@ abbrev pub change_by_one : (Scope → Target → Expr → List Stmt) → (Scope 
 change_by_one becomes target s = let t = target s in piece (becomes s t one) (names_only (set_names s t)) s
 
 abbrev pub change_piece : ℕ → RawChange → Walk
-change_piece p (change.Set t o e) = change_by (λ s. operated s p o) (target_of t) (reading e)
-change_piece p (change.Up t) = change_by_one (λ s. increased s p false) (target_of t)
-change_piece p (change.UpBefore t) = change_by_one (λ s. increased s p false) (target_of t)
-change_piece p (change.Down t) = change_by_one (λ s. combined s p binary.Sub) (target_of t)
-change_piece p (change.DownBefore t) = change_by_one (λ s. combined s p binary.Sub) (target_of t)
+change_piece p (change.Set t o e) = change_by (λ s. operated s p o) (target_in t) (reading e)
+change_piece p (change.Up t) = change_by_one (λ s. increased s p false) (target_in t)
+change_piece p (change.UpBefore t) = change_by_one (λ s. increased s p false) (target_in t)
+change_piece p (change.Down t) = change_by_one (λ s. combined s p binary.Sub) (target_in t)
+change_piece p (change.DownBefore t) = change_by_one (λ s. combined s p binary.Sub) (target_in t)
 
 -- an addition under a pragma that makes it atomic
-abbrev pub atomic_piece : ℕ → (Scope → Target) → (Scope → Reading) → Walk
+abbrev pub atomic_piece : ℕ → (Scope → Target) → (Scope → ExprReading) → Walk
 atomic_piece p = change_by (λ s. increased s p true)
 
 -- ---- loops (C17 6.8.5)
@@ -188,7 +188,7 @@ pub record StepReading : Type 0 where
   pub names : List Occurrence
   pub number : Option ℤ
 
-abbrev pub step_by : List Spelling → (ℤ → ℤ) → Reading → StepReading
+abbrev pub step_by : List Spelling → (ℤ → ℤ) → ExprReading → StepReading
 step_by variables sign r = record { variables = variables; names = r.names; number = option_map sign (constant_of r.expr) }
 
 abbrev pub step_one : Spelling → ℤ → StepReading
@@ -223,17 +223,17 @@ pub record Parts : Type 0 where
   pub parallel : Option (ℕ × Schedule)
   pub typed : Bool
   pub iter : Spelling
-  pub start : Scope → Reading
+  pub start : Scope → ExprReading
   pub start_place : ℕ
   pub tested : Spelling
   pub test : Test
-  pub limit : Scope → Reading
+  pub limit : Scope → ExprReading
   pub limit_place : ℕ
   pub step : Scope → StepReading
   pub body : Walk
 
 -- what a loop becomes
-abbrev pub loop_of : Parts → ℕ → Reading → Reading → StepReading → List Stmt → Loop
+abbrev pub loop_of : Parts → ℕ → ExprReading → ExprReading → StepReading → List Stmt → Loop
 loop_of l p start limit by body = roll-Loop (record {
   place = p;
   iter = l.iter.text;
@@ -284,7 +284,7 @@ abbrev pub else_branch : Option Walk → Walk
 else_branch (Some p) s = branch p s
 else_branch None s = piece [] no_notes s
 
-abbrev pub if_piece : ℕ → (Scope → Reading) → Walk → Option Walk → Walk
+abbrev pub if_piece : ℕ → (Scope → ExprReading) → Walk → Option Walk → Walk
 if_piece p test body otherwise s =
     let condition = test s in
     let first = branch body s in
@@ -310,7 +310,7 @@ what_at RawWhat-F.Empty p = empty_piece
 what_at (RawWhat-F.If test body otherwise) p = if_piece p (reading test) body otherwise
 what_at (RawWhat-F.Loop l) p = l p
 what_at (RawWhat-F.Change c) p = change_piece p c
-what_at (RawWhat-F.Atomic t e) p = atomic_piece p (target_of t) (reading e)
+what_at (RawWhat-F.Atomic t e) p = atomic_piece p (target_in t) (reading e)
 
 abbrev pub loop_at : RawLoop-F PlacedWalk PlacedWalk Walk → PlacedWalk
 loop_at l = loop_piece (record {

@@ -15,7 +15,7 @@ use Rattle.species_ast.specs.Run.{locals_in}
 use Rattle.species_ast.specs.Scope.Forms.{form_of, iterators_in}
 use Rattle.species_ast.specs.Scope.Limits.{most_loops, most_dimensions, most_step, most_references_made, has_lawful_sizes, goes, NestLimits, larger_than}
 use Rattle.species_ast.specs.Scope.Meanings.{is_among}
-use Rattle.species_ast.specs.Scope.Nests.{Bounds, is_parallel, is_bad_mark}
+use Rattle.species_ast.specs.Scope.Nests.{Bounds, only_loops, front_with, is_parallel, is_bad_mark}
 
 -- What stands around a place in a unit: its arrays, the locals that are declared, how many loops, and whether one of them has
 -- a parallel mark.
@@ -69,9 +69,8 @@ abbrev pub list_holds : List Made → Around → Bool
 list_holds [] w = true
 list_holds (s ∷ ss) w = s.holds w && list_holds ss (record w { locals = s.declares ++ w.locals })
 
-abbrev pub only_front : List Made → List Bounds
-only_front (s ∷ []) = s.front
-only_front others = []
+abbrev pub fronts_of : List Made → List (List Bounds)
+fronts_of ss = map (λ s. s.front) ss
 
 abbrev pub simple : (Around → Bool) → Made
 simple holds = record { declares = []; front = []; holds = holds }
@@ -88,7 +87,7 @@ made_at (Stmt-F.Declare place x init) =
 made_at (Stmt-F.SetLocal place x value) = simple (λ w. is_among w.locals x && is_made w value)
 made_at (Stmt-F.If place test body otherwise) = simple (λ w. is_made w test && (list_holds body w && list_holds otherwise w))
 made_at (Stmt-F.For l) = l
-made_at (Stmt-F.Block body) = record { declares = []; front = only_front body; holds = list_holds body }
+made_at (Stmt-F.Block body) = record { declares = []; front = only_loops (fronts_of body); holds = list_holds body }
 
 -- a parallel mark has a depth of at least 1
 abbrev pub has_depth : Mark → Bool
@@ -102,13 +101,13 @@ head_holds front l w =
     && (goes l.test l.step && (nat_le (unsigned_abs l.step) most_step
     && (nat_lt w.level most_loops && (has_depth l.mark && not (is_bad_mark w.in_nest w.level l.mark front))))))
 
-abbrev pub inside : Mark → Around → Around
-inside m w = record w { level = suc w.level; in_nest = w.in_nest || is_parallel m }
+abbrev pub in_body : Mark → Around → Around
+in_body m w = record w { level = suc w.level; in_nest = w.in_nest || is_parallel m }
 
 abbrev pub made_loop : Loop-F Made Made → Made
 made_loop l =
-    let front : List Bounds = record { start = l.start; limit = l.limit } ∷ only_front l.body in
-    record { declares = []; front = front; holds = λ w. head_holds front l w && list_holds l.body (inside l.mark w) }
+    let front = front_with l.start l.limit (fronts_of l.body) in
+    record { declares = []; front = front; holds = λ w. head_holds front l w && list_holds l.body (in_body l.mark w) }
 
 abbrev pub made : Stmt → Made
 made = fold-Stmt Made Made made_at made_loop
