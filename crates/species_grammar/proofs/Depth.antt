@@ -213,8 +213,10 @@ same_depth {Tok} {A} at under enough n m ts ln lm = once n m ln ∙ ap (λ k. at
   where
     sum : m + n ≡ n + m
     sum = omega arith
+
     settle : (k j : ℕ) → length ts < k → Less (at k ts) (at (j + k) ts) → at k ts ≡ at (j + k) ts
     settle k j lt (inl e) = absurd (enough k ts lt e)
     settle k j lt (inr e) = e
+
     once : (k j : ℕ) → length ts < k → at k ts ≡ at (j + k) ts
     once k j lt = settle k j lt (grow at under k j ts)
