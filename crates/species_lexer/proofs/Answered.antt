@@ -1,6 +1,6 @@
 -- What the scan answers where a token stands.
-use Rattle.std.proofs.Common.{◌≡◌, ◌∙◌, ap, sym, refl, subst, ℕ, ◌<◌, ◌≤◌, ◌+◌, Bool, false, true, List, length, drop, Option, Some, None, Result, Ok, Err, arith, length-drop}
-use Rattle.std.specs.Prelude.{option_map, IfSome, is_some}
+use Rattle.std.proofs.Common.{◌≡◌, ◌∙◌, ap, sym, refl, subst, ℕ, ◌≤◌, ◌+◌, false, true, List, length, drop, Option, Some, None, Result, Ok, arith, length-drop}
+use Rattle.std.specs.Prelude.{is_some}
 use denote.Ref.{Bor}
 use Rattle.species_ast.specs.declared.tree.Value.{Value}
 use Rattle.species_ast.specs.declared.token.TokenKind.{TokenKind}

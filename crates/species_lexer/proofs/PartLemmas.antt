@@ -4,7 +4,7 @@ use Rattle.std.specs.Prelude.{if◌then◌else◌}
 use Rattle.species_ast.specs.Text.Characters.{is_letter, is_digit, is_word, run_of}
 use Rattle.species_ast.specs.Text.Numbers.{run_more}
 use Rattle.species_ast.specs.Text.Comments.{gap_len}
-use Rattle.species_ast.specs.Text.Parts.{Part, part_len, and_parts, parts_at, parts_of}
+use Rattle.species_ast.specs.Text.Parts.{part_len, and_parts, parts_at, parts_of}
 
 part_some : (b : ℕ) (bytes : List ℕ) → 0 < part_len b bytes
 part_some b bytes = go (is_letter b) (is_digit b)

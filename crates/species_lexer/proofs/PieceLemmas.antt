@@ -1,11 +1,11 @@
 -- With what a piece begins.
-use Rattle.std.proofs.Common.{◌≡◌, ◌∙◌, ap, sym, refl, ℕ, zero, suc, ◌+◌, ◌<◌, Bool, true, false, List, [], ◌∷◌, length, drop, take, get_or, Some, arith, nat_eq}
+use Rattle.std.proofs.Common.{◌≡◌, ◌∙◌, ap, sym, refl, ℕ, suc, ◌+◌, ◌<◌, Bool, true, false, List, [], ◌∷◌, length, drop, take, get_or, Some, arith, nat_eq}
 use Rattle.std.specs.Prelude.{if◌then◌else◌, codes}
 use Rattle.species_ast.specs.Text.Characters.{is_blank, is_letter, is_digit, is_word, run_of, begins, line_len}
 use Rattle.species_ast.specs.Text.Comments.{splice_at}
 use Rattle.species_ast.specs.Text.Numbers.{run_more, literal_of}
 use Rattle.species_ast.specs.Text.Directives.{form_of}
-use Rattle.species_ast.specs.Text.Pieces.{Piece, Start, Blank, LineComment, BlockComment, Letter, Digit, Hash, Other, start_of, piece_in, piece_of, word, number, directive, Refused}
+use Rattle.species_ast.specs.Text.Pieces.{Piece, Blank, LineComment, BlockComment, Letter, Digit, Hash, Other, start_of, piece_in, piece_of, word, number, directive, Refused}
 use Rattle.species_ast.specs.declared.token.LexRefusal.TheVariants.{BadByte}
 use Rattle.species_lexer.specs.Pieces.{piece_at}
 

@@ -1,6 +1,6 @@
 -- A token that is no `#define` has another kind.
-use Rattle.std.proofs.Common.{◌≡◌, ap, sym, refl, subst, ℕ, zero, suc, Bool, true, false, List, [], ◌∷◌, length, drop, take, Option, Some, None, codes, nat_eq}
-use Rattle.std.specs.Prelude.{if◌then◌else◌, not, ◌&&◌, option_map, option_and_then}
+use Rattle.std.proofs.Common.{◌≡◌, refl, subst, ℕ, zero, suc, Bool, true, false, List, [], ◌∷◌, drop, take, Option, Some, None, codes}
+use Rattle.std.specs.Prelude.{if◌then◌else◌, ◌&&◌, option_map, option_and_then}
 use Rattle.species_ast.specs.declared.tree.Value.{Value}
 use Rattle.species_ast.specs.declared.tree.Schedule.{Schedule}
 use Rattle.species_ast.specs.declared.token.TokenKind.{TokenKind}
@@ -11,8 +11,8 @@ use Rattle.species_ast.specs.Text.Numbers.{run_more, literal_of, or_else}
 use Rattle.species_ast.specs.Text.Words.{is_keyword, punctuator_len}
 use Rattle.species_ast.specs.Text.Parts.{Part, is, is_nothing, parts_of, offset_of, after_words}
 use Rattle.species_ast.specs.Text.Pragmas.{schedule_of, depth_of, parallel_of, atomic_of, openmp_of}
-use Rattle.species_ast.specs.Text.Directives.{Form, Skipped, Read, Macro, Wrong, formless, header_len, is_gap, include_with, include_of, is_first_in, is_name, define_as, define_of, is_end, species_of, openmp_form, pragma_with, unless_backslash, pragma_of, parts_form, content_form, first_word, is_include, form_of}
-use Rattle.species_ast.specs.Text.Pieces.{Piece, Space, Lexeme, Define, Refused, line_comment, block_comment, word, number, punctuator, unless_spliced, directive, Start, Blank, LineComment, BlockComment, Letter, Digit, Hash, Other, start_of, piece_in, piece_of}
+use Rattle.species_ast.specs.Text.Directives.{Form, Skipped, Read, Macro, Wrong, formless, header_len, is_gap, include_with, include_of, is_first_in, is_name, define_as, define_of, is_end, species_of, openmp_form, pragma_with, unless_backslash, pragma_of, parts_form, first_word, is_include, form_of}
+use Rattle.species_ast.specs.Text.Pieces.{Piece, Space, Lexeme, line_comment, block_comment, number, punctuator, unless_spliced, directive, Start, Blank, LineComment, BlockComment, Letter, Digit, Hash, Other, start_of, piece_in, piece_of}
 use Rattle.species_ast.specs.Text.Stream.{is_definition}
 
 abbrev IsPlain : TokenKind → Type 0

@@ -1,5 +1,5 @@
 -- Lemmas on the functions that count bytes from the front.
-use Rattle.std.proofs.Common.{◌≡◌, ◌∙◌, ap, sym, refl, subst, take, ℕ, zero, suc, ◌+◌, ◌-◌, ◌<◌, ◌≤◌, Bool, true, false, List, [], ◌∷◌, length, drop, get_or, Option, Some, None, arith, length-drop, drop-cons}
+use Rattle.std.proofs.Common.{◌≡◌, ◌∙◌, ap, sym, refl, subst, take, ℕ, zero, suc, ◌+◌, ◌-◌, ◌<◌, ◌≤◌, Bool, false, List, [], ◌∷◌, length, drop, get_or, Option, Some, None, arith, length-drop, drop-cons}
 use Rattle.std.proofs.lemmas.List.{drop-drop, take_all}
 use Rattle.std.specs.Prelude.{option_map, if◌then◌else◌, codes}
 use Rattle.species_ast.specs.Text.Characters.{begins}
@@ -15,11 +15,6 @@ closing_at : (b : ℕ) (bytes : List ℕ) (found : Bool) → begins (codes "*/")
     → closing_len (b ∷ bytes) ≡ (if found then Some 2 else option_map suc (closing_len bytes))
 closing_at b bytes found e = ap (λ c. if c then Some 2 else option_map suc (closing_len bytes)) e
 
-pub closing_here : (bytes : List ℕ) (at : ℕ) → at < length bytes → begins (codes "*/") (drop at bytes) ≡ true → closing_len (drop at bytes) ≡ Some 2
-closing_here bytes at lt e =
-    let is = drop-cons bytes at 0 lt in
-    ap closing_len is ∙ closing_at (get_or bytes at 0) (drop (suc at) bytes) true (sym (ap (begins (codes "*/")) is) ∙ e)
-
 map_map : (o : Option ℕ) (at : ℕ) → option_map (λ n. n + at) (option_map suc o) ≡ option_map (λ n. n + (at + 1)) o
 map_map None at = refl
 map_map (Some n) at = ap Some (omega arith)
@@ -32,13 +27,6 @@ closing_later bytes at lt e =
     ap (option_map (λ n. n + at)) (ap closing_len is ∙ closing_at (get_or bytes at 0) (drop (suc at) bytes) false (sym (ap (begins (codes "*/")) (tail_is bytes at ∙ is)) ∙ e))
     ∙ map_map (closing_len (drop (suc at) bytes)) at
     ∙ ap (λ i. option_map (λ n. n + (at + 1)) (closing_len (drop i bytes))) next
-
-map_zero : (o : Option ℕ) → o ≡ option_map (λ n. n + 0) o
-map_zero None = refl
-map_zero (Some n) = ap Some (omega arith)
-
-pub closing_first : (bytes : List ℕ) → closing_len bytes ≡ option_map (λ n. n + 0) (closing_len (drop 0 bytes))
-closing_first bytes = map_zero (closing_len bytes)
 
 -- ---- as many items as stand one after the other
 
@@ -68,10 +56,6 @@ many_more item none (suc n) (x ∷ bytes) is some fits =
     ap (λ k. and_more k (many item (length bytes)) (x ∷ bytes)) is
     ∙ ap (λ r. suc n + r) (many_any item none (length bytes) (length (drop (suc n) (x ∷ bytes))) (drop (suc n) (x ∷ bytes)) (omega (arith, length-drop (suc n) (x ∷ bytes))) (omega arith))
 
-many_none : (item : List ℕ → ℕ) (bytes : List ℕ) → item bytes ≡ 0 → all_of item bytes ≡ 0
-many_none item [] is = refl
-many_none item (x ∷ bytes) is = ap (λ k. and_more k (many item (length bytes)) (x ∷ bytes)) is
-
 -- the same at a place, as a loop has it
 more_at : (item : List ℕ → ℕ) → item [] ≡ 0 → (line : List ℕ) (at n : ℕ) → item (drop at line) ≡ n → 0 < n → n ≤ length (drop at line)
     → at + all_of item (drop at line) ≡ (at + n) + all_of item (drop (at + n) line)
@@ -82,11 +66,5 @@ more_at item none line at n is some fits =
 pub gap_more : (line : List ℕ) (at n : ℕ) → blank_len (take (length line - at) (drop at line)) ≡ n → 0 < n → n ≤ length (take (length line - at) (drop at line)) → at + gap_len (drop at line) ≡ (at + n) + gap_len (drop (at + n) line)
 gap_more line at n is some fits = more_at blank_len refl line at n (sym (ap blank_len (tail_is line at)) ∙ is) some (subst (λ z. n ≤ length z) (tail_is line at) fits)
 
-pub gap_none : (bytes : List ℕ) → blank_len bytes ≡ 0 → gap_len bytes ≡ 0
-gap_none = many_none blank_len
-
 pub content_more : (line : List ℕ) (at n : ℕ) → plain_len (take (length line - at) (drop at line)) ≡ n → 0 < n → n ≤ length (take (length line - at) (drop at line)) → at + content_len (drop at line) ≡ (at + n) + content_len (drop (at + n) line)
 content_more line at n is some fits = more_at plain_len refl line at n (sym (ap plain_len (tail_is line at)) ∙ is) some (subst (λ z. n ≤ length z) (tail_is line at) fits)
-
-pub content_none : (bytes : List ℕ) → plain_len bytes ≡ 0 → content_len bytes ≡ 0
-content_none = many_none plain_len

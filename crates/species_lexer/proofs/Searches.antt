@@ -1,5 +1,5 @@
 -- Lemmas on the search for the literal of a name.
-use Rattle.std.proofs.Common.{◌≡◌, ◌∙◌, ap, sym, refl, subst, ℕ, zero, suc, ◌<◌, ◌≤◌, ◌+◌, ◌-◌, Bool, true, false, List, [], ◌∷◌, length, drop, take, Option, Some, None, Result, Ok, Err, arith, length-drop}
+use Rattle.std.proofs.Common.{◌≡◌, ◌∙◌, ap, sym, refl, subst, ℕ, zero, suc, ◌<◌, ◌≤◌, ◌+◌, ◌-◌, Bool, true, false, List, [], ◌∷◌, drop, take, Option, Some, None, Ok, Err, arith}
 use Rattle.std.proofs.lemmas.List.{drop-drop}
 use Rattle.std.specs.Prelude.{is_some, option_map, IfSome, bytes_eq, if◌then◌else◌}
 use Rattle.species_ast.specs.declared.tree.Value.{Value}
@@ -8,7 +8,7 @@ use Rattle.species_ast.specs.Text.Stream.{Definition, look_up, head_behind}
 use Rattle.species_lexer.specs.declared.piece.Piece.{Piece}
 use Rattle.species_lexer.specs.declared.piece.Piece.TheVariants as piece
 use Rattle.species_lexer.specs.Pieces.{seen_piece, piece_at, Fits}
-use Rattle.species_lexer.specs.Cursor.{Before, with_definition, over_piece, over, before_at}
+use Rattle.species_lexer.specs.Cursor.{Before, with_definition, over_piece, over}
 use Rattle.species_lexer.specs.Found.{length_in, definition_in, head_after}
 use Rattle.species_lexer.proofs.Walk.{at_first, over_behind}
 

@@ -1,5 +1,5 @@
 -- Lemmas on the loop over blanks and comments.
-use Rattle.std.proofs.Common.{◌≡◌, ◌∙◌, ap, sym, refl, subst, ℕ, ◌<◌, ◌≤◌, ◌+◌, Bool, List, length, drop, take, Option, Some, None, arith, length-drop}
+use Rattle.std.proofs.Common.{◌≡◌, ◌∙◌, ap, sym, subst, ℕ, ◌<◌, ◌≤◌, ◌+◌, Bool, List, length, drop, take, Option, Some, None, arith, length-drop}
 use Rattle.std.specs.Prelude.{option_map, IfSome}
 use Rattle.species_ast.specs.Text.Pieces as text
 use Rattle.species_ast.specs.Text.Stream.{head_behind}

@@ -1,19 +1,17 @@
 -- The stream from a place on, behind each piece.
-use Rattle.std.proofs.Common.{◌≡◌, ◌∙◌, ap, sym, refl, subst, ℕ, zero, suc, ◌+◌, ◌-◌, ◌<◌, ◌≤◌, Bool, true, false, List, [], ◌∷◌, ◌++◌, length, drop, take, Option, Some, None, Result, Ok, Err, arith, append-nil, length-drop}
+use Rattle.std.proofs.Common.{◌≡◌, ◌∙◌, ap, sym, refl, subst, ℕ, ◌+◌, ◌<◌, ◌≤◌, Bool, true, false, List, [], ◌∷◌, ◌++◌, length, drop, take, Option, Some, None, Ok, arith, append-nil, length-drop}
 use Rattle.std.proofs.lemmas.List.{drop-drop}
 use Rattle.std.specs.Prelude.{unwrap_or}
 use Rattle.species_ast.specs.Token.{Token}
 use Rattle.species_ast.specs.declared.tree.Value.{Value}
 use Rattle.species_ast.specs.declared.token.TokenKind.{TokenKind}
 use Rattle.species_ast.specs.declared.token.TokenKind.TheVariants as kind
-use Rattle.species_ast.specs.declared.token.LexRefusal.{LexRefusal}
-use Rattle.species_ast.specs.declared.token.LexRefusal.TheVariants as refusal
-use Rattle.species_ast.specs.Text.Pieces.{Piece, Space, Lexeme, Define, Refused, piece_of}
-use Rattle.species_ast.specs.Text.Stream.{TokenStream, Definition, look_up, named, define_once, in_scope, defined_by, head_behind, is_definition, put, finished, refused, moved, cut_piece, cut_at, stream_of}
+use Rattle.species_ast.specs.Text.Pieces.{Piece, Space, Lexeme, Define, piece_of}
+use Rattle.species_ast.specs.Text.Stream.{Definition, look_up, define_once, in_scope, defined_by, head_behind, is_definition, put, cut_piece, cut_at}
 use Rattle.species_ast.proofs.Cutting.{any_bound}
 use Rattle.species_lexer.specs.Pieces.{piece_at}
 use Rattle.species_lexer.specs.Found.{kind_of}
-use Rattle.species_lexer.specs.Cursor.{Before, over_piece, reached, over, before_at, stream_at, IsAt}
+use Rattle.species_lexer.specs.Cursor.{Before, over, before_at, stream_at, IsAt}
 use Rattle.species_lexer.proofs.Walk.{join, at_first, over_more, one_space, one_lexeme, one_define}
 use Rattle.species_lexer.proofs.Plain.{plain_piece}
 
@@ -45,13 +43,6 @@ first text = reaches text 0 (at_first true) (go text)
     go [] = refl
     go (x ∷ bytes) = refl
 
-pub first_stream : (text : List ℕ) → stream_at text 0 ≡ stream_of text
-first_stream text = ap (λ b. cut_at (length text) 0 b.is_head b.definitions text) (at_is text 0 (at_first true) (go text))
-  where
-    go : (bytes : List ℕ) → over bytes 0 0 true ≡ Some (at_first true)
-    go [] = refl
-    go (x ∷ bytes) = refl
-
 -- behind some bytes more
 further : (text rest : List ℕ) (at n : ℕ) (b c : Before) → over text 0 at true ≡ Some b → drop at text ≡ rest → over rest 0 n b.is_head ≡ Some c
     → over text 0 (at + n) true ≡ Some (record { is_head = c.is_head; definitions = b.definitions ++ c.definitions })
@@ -74,14 +65,6 @@ behind text rest at n x c e r fits =
 
 -- ---- by the kinds of pieces
 
-none_left : (is_head : Bool) (bytes : List ℕ) → piece_at is_head bytes ≡ None → bytes ≡ []
-none_left is_head [] e = refl
-none_left is_head (x ∷ bytes) e = cc
-
-pub at_end : (text : List ℕ) (at : ℕ) (is_head : Bool) → piece_at is_head (drop at text) ≡ None → stream_at text at ≡ finished
-at_end text at is_head e =
-    ap (λ z. cut_at (length z) at (before_at text at).is_head (before_at text at).definitions z) (none_left is_head (drop at text) e)
-
 -- the bytes at a place, where a piece stands there
 record Stands (text : List ℕ) (at : ℕ) (is_head : Bool) (p : Piece) : Type 0 where
   x : ℕ
@@ -98,13 +81,6 @@ stands text at is_head p here e = go (drop at text) refl (ap (λ h. piece_at h (
     go : (z : List ℕ) → drop at text ≡ z → piece_at (before_at text at).is_head (drop at text) ≡ Some p → Stands text at is_head p
     go [] r f = let y : None ≡ Some p = sym (ap (piece_at (before_at text at).is_head) r) ∙ f in cc
     go (x ∷ rest) r f = record { x = x; rest = rest; is = r; piece = piece_is _ p (sym (ap (piece_at (before_at text at).is_head) r) ∙ f) }
-
-pub at_refused : (text : List ℕ) (at : ℕ) (is_head : Bool) (r : LexRefusal) → IsAt text at is_head → piece_at is_head (drop at text) ≡ Some (Refused r)
-    → stream_at text at ≡ refused (moved at r)
-at_refused text at is_head r here e =
-    let s = stands text at is_head (Refused r) here e in
-    let b = before_at text at in
-    step text s.rest at s.x b here.ends s.is ∙ ap (λ p. cut_piece (cut_at (length s.rest)) at b.is_head b.definitions (s.x ∷ s.rest) (in_scope b.definitions p)) s.piece
 
 pub after_space : (text : List ℕ) (at n : ℕ) (is_head : Bool) → IsAt text at is_head → piece_at is_head (drop at text) ≡ Some (Space n) → Fits n (drop at text)
     → IsAt text (at + n) (head_behind is_head (take n (drop at text))) × (stream_at text (at + n) ≡ stream_at text at)
@@ -157,21 +133,3 @@ after_define text at n is_head name v here e fits new =
           ∙ ap (λ p. cut_piece (cut_at (length s.rest)) at b.is_head b.definitions (s.x ∷ s.rest) p) (ap (in_scope b.definitions) s.piece ∙ ap (λ q. define_once q n name (Ok v)) new)
           ∙ ap (put (record { place = at; text = name; kind = kind.Define v })) (behind text s.rest at n s.x c o s.is f),
     )
-
-pub at_bad_define : (text : List ℕ) (at n : ℕ) (is_head : Bool) (name : List ℕ) (r : LexRefusal) → IsAt text at is_head → piece_at is_head (drop at text) ≡ Some (Define n name (Err r))
-    → look_up (before_at text at).definitions name ≡ None → stream_at text at ≡ refused (moved at r)
-at_bad_define text at n is_head name r here e new =
-    let s = stands text at is_head (Define n name (Err r)) here e in
-    let b = before_at text at in
-    step text s.rest at s.x b here.ends s.is
-    ∙ ap (λ p. cut_piece (cut_at (length s.rest)) at b.is_head b.definitions (s.x ∷ s.rest) p) (ap (in_scope b.definitions) s.piece ∙ ap (λ q. define_once q n name (Err r)) new)
-
-pub at_second_define : (text : List ℕ) (at n : ℕ) (is_head : Bool) (name : List ℕ) (value : Result Value LexRefusal) (v : Value) → IsAt text at is_head → piece_at is_head (drop at text) ≡ Some (Define n name value)
-    → look_up (before_at text at).definitions name ≡ Some v → stream_at text at ≡ refused (refusal.BadByte at)
-at_second_define text at n is_head name value v here e old =
-    let s = stands text at is_head (Define n name value) here e in
-    let b = before_at text at in
-    let k : at + 0 ≡ at = omega arith in
-    step text s.rest at s.x b here.ends s.is
-    ∙ ap (λ p. cut_piece (cut_at (length s.rest)) at b.is_head b.definitions (s.x ∷ s.rest) p) (ap (in_scope b.definitions) s.piece ∙ ap (λ q. define_once q n name value) old)
-    ∙ ap (λ i. refused (refusal.BadByte i)) k

@@ -1,12 +1,9 @@
 -- Walking over the pieces of a text.
-use Rattle.std.proofs.Common.{◌≡◌, ◌∙◌, ap, sym, refl, subst, ℕ, zero, suc, ◌+◌, ◌-◌, ◌<◌, ◌≤◌, Bool, true, false, List, [], ◌∷◌, ◌++◌, length, drop, take, Option, Some, None, Result, Ok, Err, arith, append-nil, length-drop}
-use Rattle.std.proofs.lemmas.List.{drop-drop}
-use Rattle.std.specs.Prelude.{unwrap_or}
-use Rattle.species_ast.specs.Token.{Token}
+use Rattle.std.proofs.Common.{◌≡◌, ◌∙◌, ap, refl, ℕ, zero, suc, ◌+◌, ◌-◌, ◌<◌, ◌≤◌, Bool, false, List, [], ◌∷◌, ◌++◌, length, drop, take, Option, Some, None, Ok, Err, arith}
 use Rattle.species_ast.specs.declared.token.TokenKind.{TokenKind}
 use Rattle.species_ast.specs.Text.Pieces.{Piece, Space, Lexeme, Define, Refused, piece_of}
-use Rattle.species_ast.specs.Text.Stream.{Definition, head_behind, cut_at}
-use Rattle.species_lexer.specs.Cursor.{Before, with_definition, over_piece, reached, over}
+use Rattle.species_ast.specs.Text.Stream.{Definition, head_behind}
+use Rattle.species_lexer.specs.Cursor.{Before, with_definition, over_piece, over}
 
 -- what lies before a place, where this lies before it and that between
 abbrev pub join : Before → Option Before → Option Before

@@ -1,5 +1,5 @@
 -- A cursor in a text.
-use Rattle.std.specs.Prelude.{◌≡◌, ℕ, zero, suc, ◌-◌, ◌≤◌, Bool, true, false, List, [], ◌∷◌, length, take, drop, Option, Some, None, unwrap_or, Result, Ok, Err}
+use Rattle.std.specs.Prelude.{◌≡◌, ℕ, zero, suc, ◌-◌, ◌≤◌, Bool, true, false, List, [], ◌∷◌, length, take, drop, Option, Some, None, unwrap_or, Ok, Err}
 use Rattle.species_ast.specs.Text.Pieces.{Piece, Space, Lexeme, Define, Refused, piece_of}
 use Rattle.species_ast.specs.Text.Stream.{TokenStream, Definition, head_behind, cut_at}
 

@@ -1,5 +1,5 @@
 -- Where the scan of a text stops, and what it answers there.
-use Rattle.std.specs.Prelude.{◌≡◌, ◌≤◌, ◌+◌, ℕ, Bool, false, bytes_eq, if◌then◌else◌, List, length, drop, option_map, Option, Some, None, IfSome, Result, Ok, Err}
+use Rattle.std.specs.Prelude.{◌≡◌, ◌≤◌, ℕ, Bool, false, bytes_eq, if◌then◌else◌, List, length, drop, option_map, Option, Some, None, IfSome, Result, Ok, Err}
 use Rattle.species_ast.specs.Text.Stream.{put, finished, refused, head_behind, named}
 use Rattle.species_ast.specs.declared.tree.Value.{Value}
 use Rattle.species_ast.specs.declared.token.TokenKind.{TokenKind}

@@ -1,5 +1,4 @@
 -- The parts of a directive as the definitions of the text have them.
-use Rattle.std.specs.Prelude.{ℕ}
 use Rattle.species_ast.specs.Text.Parts as text
 use Rattle.species_lexer.specs.declared.parts.Part.{Part}
 

@@ -1,5 +1,5 @@
 -- What the lexer answers.
-use Rattle.std.specs.Prelude.{◌≡◌, ◌+◌, ℕ, Option, Some, None, Result, Ok, Err}
+use Rattle.std.specs.Prelude.{◌≡◌, Option, Some, None, Result, Ok, Err}
 use Rattle.species_ast.specs.Token as ast
 use Rattle.species_ast.specs.Text.Stream.{TokenStream, put, finished, refused}
 use Rattle.species_ast.specs.declared.token.LexRefusal.{LexRefusal}

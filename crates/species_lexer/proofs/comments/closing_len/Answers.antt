@@ -1,4 +1,4 @@
-use Rattle.std.proofs.Common.{rules, sym, ◌∙◌}
+use Rattle.std.proofs.Common.{rules, ◌∙◌}
 use Rattle.species_lexer.proofs.Runs.{closing_later}
 use Rattle.species_lexer.proofs.comments.closing_len.Goals as goal
 

@@ -1,4 +1,4 @@
-use Rattle.std.proofs.Common.{rules, arith, sym, ◌∙◌, ◌<◌, length-drop}
+use Rattle.std.proofs.Common.{rules, arith, sym, ◌∙◌, ◌<◌}
 use Rattle.species_lexer.proofs.Runs.{gap_more}
 use Rattle.species_lexer.proofs.comments.gap_len.Goals as goal
 

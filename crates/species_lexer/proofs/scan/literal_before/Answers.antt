@@ -1,7 +1,6 @@
-use Rattle.std.proofs.Common.{◌≡◌, ◌∙◌, ap, sym, arith, rules, ◌-◌, Some, None, true}
-use Rattle.species_ast.specs.Text.Stream.{look_up}
+use Rattle.std.proofs.Common.{◌≡◌, ◌∙◌, ap, sym, arith, rules, ◌-◌, true}
 use Rattle.species_lexer.specs.Cursor.{over, before_at}
-use Rattle.species_lexer.proofs.Searches.{searches, next, hit, nothing_left}
+use Rattle.species_lexer.proofs.Searches.{searches, next, nothing_left}
 use Rattle.species_lexer.proofs.scan.literal_before.Goals as goal
 
 pub loop-from-init : goal.loop-from-init

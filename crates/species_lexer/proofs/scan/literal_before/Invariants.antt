@@ -1,4 +1,4 @@
-use Rattle.std.proofs.Common.{◌≡◌, ◌-◌, ◌≤◌, length, drop, Some}
+use Rattle.std.proofs.Common.{◌≡◌, ◌-◌, ◌≤◌, drop, Some}
 use Rattle.species_ast.specs.Text.Stream.{look_up}
 use Rattle.species_lexer.specs.Cursor.{Before, over, before_at}
 use Rattle.species_lexer.proofs.scan.literal_before.Given as goal
