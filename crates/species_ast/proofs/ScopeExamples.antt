@@ -444,17 +444,7 @@ iterator_set = answer set_iterator _ refl
 
 -- `for (i = e; i < 4; i++) ;`, where the start stands 9 behind the `for`
 abbrev old_loop : ℕ → String → Known → Does → Does
-old_loop p n start s = loop p (record {
-  parallel = None;
-  typed = false;
-  iter = at (p + 5) n;
-  start = start;
-  tested = at (p + 12) n;
-  test = test.Lt;
-  limit = num (p + 16) 4;
-  step = plus_plus (p + 19) n;
-  body = s;
-})
+old_loop p n start s = loop p (record { parallel = None; typed = false; iter = at (p + 5) n; start = start; tested = at (p + 12) n; test = test.Lt; limit = num (p + 16) 4; step = plus_plus (p + 19) n; body = s })
 
 -- `int A[4]; void k(void) { for (A = 0; A < 4; A++) ; }`
 abbrev over_array : KnownProgram
@@ -550,17 +540,7 @@ unknown_in_size = answer size_before _ refl
 
 -- a loop at 15 with the iterator i from 0 up to 4 with this step: `void k(void) { for (int i = 0; i < 4; ..) ; }`
 abbrev with_step : String → KnownStep → KnownProgram
-with_step tested by = program [] k_at_5 (loop 15 (record {
-  parallel = None;
-  typed = true;
-  iter = at 24 "i";
-  start = num 28 0;
-  tested = at 31 tested;
-  test = test.Lt;
-  limit = num 35 4;
-  step = by;
-  body = empty 50;
-}) ∷ [])
+with_step tested by = program [] k_at_5 (loop 15 (record { parallel = None; typed = true; iter = at 24 "i"; start = num 28 0; tested = at 31 tested; test = test.Lt; limit = num 35 4; step = by; body = empty 50 }) ∷ [])
 
 no_step : answers (with_step "i" (add_by 38 "i" (num 43 0))) (refused Refusal.BadStep 15)
 no_step = answer (with_step "i" (add_by 38 "i" (num 43 0))) _ (simp folded refl)
@@ -574,17 +554,7 @@ unknown_in_header = answer (with_step "j" (plus_plus 38 "i")) _ refl
 
 -- `void k(void) { int j; for (int i = 0; i < 4; j++) ; }`
 abbrev other_variable : KnownProgram
-other_variable = program [] k_at_5 (declare 15 kind.Int (plain 19 "j" ∷ []) ∷ loop 22 (record {
-  parallel = None;
-  typed = true;
-  iter = at 31 "i";
-  start = num 35 0;
-  tested = at 38 "i";
-  test = test.Lt;
-  limit = num 42 4;
-  step = plus_plus 45 "j";
-  body = empty 50;
-}) ∷ [])
+other_variable = program [] k_at_5 (declare 15 kind.Int (plain 19 "j" ∷ []) ∷ loop 22 (record { parallel = None; typed = true; iter = at 31 "i"; start = num 35 0; tested = at 38 "i"; test = test.Lt; limit = num 42 4; step = plus_plus 45 "j"; body = empty 50 }) ∷ [])
 
 two_variables : answers other_variable (refused Refusal.BadStep 22)
 two_variables = answer other_variable _ (simp folded refl)
@@ -620,17 +590,7 @@ ninth_loop = answer nine_loops _ (simp folded refl)
 
 -- `for (int i = 0; i < 4; i++) s` with a mark of this depth
 abbrev marked : ℕ → ℕ → String → Known → Does → Does
-marked depth p n limit s = loop p (record {
-  parallel = Some (depth, schedule.Static);
-  typed = true;
-  iter = at (p + 9) n;
-  start = num (p + 13) 0;
-  tested = at (p + 16) n;
-  test = test.Lt;
-  limit = limit;
-  step = plus_plus (p + 23) n;
-  body = s;
-})
+marked depth p n limit s = loop p (record { parallel = Some (depth, schedule.Static); typed = true; iter = at (p + 9) n; start = num (p + 13) 0; tested = at (p + 16) n; test = test.Lt; limit = limit; step = plus_plus (p + 23) n; body = s })
 
 -- a second mark inside
 abbrev mark_in_nest : KnownProgram
@@ -692,17 +652,7 @@ empty_else = answer branches _ refl
 
 -- the loop that counts up to 4 with this body
 abbrev loop_to_4 : ℕ → String → List Stmt → Stmt
-loop_to_4 p n body = stmt.For (roll-Loop (record {
-  place = p;
-  iter = codes n;
-  start = int 0;
-  test = test.Lt;
-  limit = int 4;
-  step = pos 1;
-  body = body;
-  line = None;
-  mark = mark.Plain;
-}))
+loop_to_4 p n body = stmt.For (roll-Loop (record { place = p; iter = codes n; start = int 0; test = test.Lt; limit = int 4; step = pos 1; body = body; line = None; mark = mark.Plain }))
 
 -- `int A[4]; void k(void) { for (int i = 0; i < 4; i++) { A[i]++; --A[i]; } }`
 abbrev changes : KnownProgram
@@ -734,17 +684,7 @@ abbrev two_deep : KnownProgram
 two_deep = program [] k_at_5 (marked 2 20 "i" (num 40 4) (block 50 (block 55 (count_up 60 "j" (num 80 4) (empty 90) ∷ []) ∷ [])) ∷ [])
 
 abbrev two_deep_body : List Stmt
-two_deep_body = stmt.For (roll-Loop (record {
-  place = 20;
-  iter = codes "i";
-  start = int 0;
-  test = test.Lt;
-  limit = int 4;
-  step = pos 1;
-  body = stmt.Block (loop_to_4 60 "j" [] ∷ []) ∷ [];
-  line = None;
-  mark = mark.Parallel 2 schedule.Static;
-})) ∷ []
+two_deep_body = stmt.For (roll-Loop (record { place = 20; iter = codes "i"; start = int 0; test = test.Lt; limit = int 4; step = pos 1; body = stmt.Block (loop_to_4 60 "j" [] ∷ []) ∷ []; line = None; mark = mark.Parallel 2 schedule.Static })) ∷ []
 
 marked_two_deep : answers two_deep (unit [] [] two_deep_body)
 marked_two_deep = answer two_deep _ (simp folded refl)
@@ -778,17 +718,7 @@ atomic_on_local = answer atomics _ (simp folded refl)
 abbrev by_two : KnownProgram
 by_two = with_step "i" (add_by 38 "i" (bin 43 binary.Add (bin 43 binary.Sub (var 43 "i") (var 47 "i")) (num 51 2)))
 
-constant_step : answers by_two (unit [] [] (stmt.For (roll-Loop (record {
-  place = 15;
-  iter = codes "i";
-  start = int 0;
-  test = test.Lt;
-  limit = int 4;
-  step = pos 2;
-  body = [];
-  line = None;
-  mark = mark.Plain;
-})) ∷ []))
+constant_step : answers by_two (unit [] [] (stmt.For (roll-Loop (record { place = 15; iter = codes "i"; start = int 0; test = test.Lt; limit = int 4; step = pos 2; body = []; line = None; mark = mark.Plain })) ∷ []))
 constant_step = answer by_two _ (simp folded refl)
 
 -- `void k(void) { int i; for (i = 0; i < 4; i++) ; for (i = 0; i < 4; i++) ; }`
@@ -807,17 +737,7 @@ names_before_bounds = answer bound_then_name _ refl
 
 -- a bound that is not affine, and a bad step: the `for` stands before the bound
 abbrev bad_loop : KnownProgram
-bad_loop = program [] k_at_5 (declare 15 kind.Int (plain 19 "n" ∷ []) ∷ loop 22 (record {
-  parallel = None;
-  typed = true;
-  iter = at 31 "i";
-  start = num 35 0;
-  tested = at 38 "i";
-  test = test.Ge;
-  limit = var 43 "n";
-  step = plus_plus 46 "i";
-  body = empty 51;
-}) ∷ [])
+bad_loop = program [] k_at_5 (declare 15 kind.Int (plain 19 "n" ∷ []) ∷ loop 22 (record { parallel = None; typed = true; iter = at 31 "i"; start = num 35 0; tested = at 38 "i"; test = test.Ge; limit = var 43 "n"; step = plus_plus 46 "i"; body = empty 51 }) ∷ [])
 
 step_before_bound : answers bad_loop (refused Refusal.BadStep 22)
 step_before_bound = answer bad_loop _ (simp folded refl)

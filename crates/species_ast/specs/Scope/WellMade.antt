@@ -1,5 +1,5 @@
--- Well made units: those that passes take and give. A lawful program whose parallel marks have depths becomes one, which also
--- has the size of one that is read.
+-- Well made units: those that passes take and give. A lawful program that is written by its
+-- definition becomes one, which also has the size of one that is read.
 use Rattle.std.specs.Prelude.{◌≡◌, ℕ, zero, suc, ◌^◌, ◌<◌, Bool, true, false, ◌&&◌, ◌||◌, not, nat_eq, nat_lt, nat_le, List, [], ◌∷◌, ◌++◌, map, length, unsigned_abs, Option, Some, None, option_map, unwrap_or, is_some, slice_get, IsTrue}
 use Rattle.std.specs.List.{list_all, filter}
 use Rattle.species_ast.specs.declared.tree.Array.{Array}
