@@ -2,7 +2,6 @@ pub mod AccessLaws
 pub mod ArrayLaws
 pub mod Cutting
 mod Examples
-pub mod Examples
 pub mod FirstRefusal
 pub mod Folds
 pub mod Grammar
