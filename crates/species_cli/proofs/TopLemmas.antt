@@ -14,10 +14,10 @@ pub noted : (words : List (String Global)) (rose : Type 0) (bytes : List ℕ) (s
 noted words rose bytes status result line old new h (inl same) whole p q r = (line, subst (λ s. HasLine words rose bytes s line) (sym same) h, whole q)
 noted words rose bytes status result line old new h (inr cut) whole p q r = absurd (q cut)
 
-pub partly_noted : (words : List (String Global)) (rose : Type 0) (bytes : List ℕ) (status result : ℕ) (line : List ℕ) (old new : Option (List ℕ)) (P : Type 0)
-    → HasLine words rose bytes status line → (result ≡ 5 → TookPart old new line) → (out : Option (List ℕ)) → result ≡ 5
-    → P ⊎ (IsPartlyNoted words rose bytes old new × (out ≡ out))
-partly_noted words rose bytes status result line old new P h part out cut = inr ((status, line, h, part cut), refl)
+pub partly_noted : (words : List (String Global)) (rose : Type 0) (bytes : List ℕ) (status result : ℕ) (line : List ℕ) (old new : Option (List ℕ)) (P fault : Type 0)
+    → HasLine words rose bytes status line → (result ≡ 5 → TookPart old new line) → (result ≡ 5 → fault) → (out : Option (List ℕ)) → result ≡ 5
+    → P ⊎ (IsPartlyNoted words rose bytes old new × (out ≡ out) × fault)
+partly_noted words rose bytes status result line old new P fault h part rises out cut = inr ((status, line, h, part cut), refl, rises cut)
 
 pub longer : (limit : ℕ) (told : Option (List ℕ)) (bytes : List ℕ) → IsLonger limit told → told ≡ Some bytes → limit < length bytes
 longer limit told bytes h e = subst (IsLonger limit) e h
@@ -36,8 +36,8 @@ answered bytes read whole text written u old new h k short (p, is, unit) table s
   is_true = true_table p;
 }
 
-pub partly_answered : (words : List (String Global)) (bytes read whole text written : List ℕ) (u : unit.Unit) (old new : Option (List ℕ)) → IsArcs words → read ≡ whole → whole ≡ bytes
+pub partly_answered : (words : List (String Global)) (bytes read whole text written : List ℕ) (u : unit.Unit) (old new : Option (List ℕ)) → IsArcs words → read ≡ whole → whole ≡ bytes → length whole ≤ most_input
     → ((p : OneLoop) × IsOneLoopText read p × (u ≡ unit_of p)) → text ≡ table_of u → written ≡ text → TookPart old new written
     → IsPartlyAnswered words bytes old new
-partly_answered words bytes read whole text written u old new lawful h k (p, is, unit) table same took =
-    (p, lawful, subst (λ b. IsOneLoopText b p) (h ∙ k) is, subst (TookPart old new) (same ∙ table ∙ ap table_of unit) took)
+partly_answered words bytes read whole text written u old new lawful h k short (p, is, unit) table same took =
+    (p, lawful, subst (λ b. IsOneLoopText b p) (h ∙ k) is, subst (λ b. length b ≤ most_input) k short, subst (TookPart old new) (same ∙ table ∙ ap table_of unit) took)

@@ -41,8 +41,9 @@ pub record IsAnswered (bytes : List ℕ) (old new : Option (List ℕ)) : Type 0 
   pub written : new ≡ then_bytes old (table_of (unit_of program))
   pub is_true : IsTrueTable (loop_of program)
 
--- With these words and input bytes a status has this line on the notes; `rose` says that a read
--- failed. The first case that holds is the answer.
+-- With these words and input bytes a status has this line on the notes; `rose` says that the input's
+-- count of faults rose. Where it did, 4 may stand in place of 0 and 1; the other cases exclude each
+-- other.
 pub data HasLine (words : List (String Global)) (rose : Type 0) (bytes : List ℕ) : ℕ → List ℕ → Type 0 where
   usage : (IsArcs words → ⊥) → HasLine words rose bytes 2 usage_line
   read_fault : IsArcs words → rose → HasLine words rose bytes 4 read_fault_line
@@ -62,4 +63,8 @@ IsPartlyNoted words rose bytes old new =
 -- the output has a part of the table of the program more
 abbrev pub IsPartlyAnswered : List (String Global) → List ℕ → Option (List ℕ) → Option (List ℕ) → Type 0
 IsPartlyAnswered words bytes old new =
-    (p : OneLoop) × IsArcs words × IsOneLoopText bytes p × TookPart old new (table_of (unit_of p))
+    (p : OneLoop) × IsArcs words × IsOneLoopText bytes p × (length bytes ≤ most_input) × TookPart old new (table_of (unit_of p))
+
+-- the notes have exactly one of the lines of a refused input more
+abbrev pub IsRefusedOn : Option (List ℕ) → Option (List ℕ) → Type 0
+IsRefusedOn old new = (new ≡ then_bytes old too_long_line) ⊎ (new ≡ then_bytes old not_built_line)

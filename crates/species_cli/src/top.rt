@@ -3,7 +3,7 @@ ghost use Rattle.std.specs.Prelude.{◌≡◌, ◌≢◌, ◌⊎◌, ◌≤◌, 
 ghost use Rattle.species_io.specs.Told.{Rose, then_bytes, AtEnd, GaveAtMost, TookPart};
 ghost use Rattle.species_reference.specs.OneLoop.{OneLoop};
 ghost use Rattle.species_cli.specs.OneLoopText.{IsOneLoopText};
-ghost use Rattle.species_cli.specs.Answer.{IsArcs, IsAnswered, IsNoted, IsPartlyAnswered, IsPartlyNoted, IsNoOneLoop, most_input, usage_line, read_fault_line};
+ghost use Rattle.species_cli.specs.Answer.{IsArcs, IsAnswered, IsNoted, IsPartlyAnswered, IsPartlyNoted, IsNoOneLoop, IsRefusedOn, most_input, usage_line, read_fault_line};
 
 use crate::one_loop::{ReadRefusal, read_one_loop};
 use crate::table::table;
@@ -71,20 +71,24 @@ pub fn species<S: Source, K: Sink, N: Sink>(
         → IsNoted words.now (Rose (S.faults input.old) (S.faults input.new)) bytes result (N.taken notes.old) (N.taken notes.new) }
     ensures silent { (result ≡ 0) ⊎ (result ≡ 6) → N.taken notes.new ≡ N.taken notes.old }
 
-    // Status 1: where the input is not too long it was read to its end.
+    // Status 1: one of two lines, and where the input is not too long it was read to its end.
+    ensures refused_line { result ≡ 1 → IsRefusedOn (N.taken notes.old) (N.taken notes.new) }
     ensures refused_read_all { result ≡ 1 → (bytes : List ℕ) → S.left input.old ≡ Some bytes → length bytes ≤ most_input → AtEnd (S.left input.new) }
 
     // Status 2: exactly where the words are not lawful, and then nothing is read.
     ensures usage { result ≡ 2 → (IsArcs words.now → ⊥) × (N.taken notes.new ≡ then_bytes (N.taken notes.old) usage_line) }
     ensures unlawful { (IsArcs words.now → ⊥) → (result ≡ 2) ⊎ (result ≡ 5) }
+    ensures unlawful_part { (IsArcs words.now → ⊥) → result ≡ 5 → TookPart (N.taken notes.old) (N.taken notes.new) usage_line × (K.taken output.new ≡ K.taken output.old) }
     ensures unread { (IsArcs words.now → ⊥) → input.new ≡ input.old }
 
     // Statuses 4 and 5: only where a count of faults rose.
     ensures read_fault { result ≡ 4 → Rose (S.faults input.old) (S.faults input.new) × (N.taken notes.new ≡ then_bytes (N.taken notes.old) read_fault_line) }
     ensures write_fault { result ≡ 5 → Rose (K.faults output.old) (K.faults output.new) ⊎ Rose (N.faults notes.old) (N.faults notes.new) }
     ensures cut_short { result ≡ 5 → (bytes : List ℕ) → S.left input.old ≡ Some bytes
-        → (IsPartlyAnswered words.now bytes (K.taken output.old) (K.taken output.new) × (N.taken notes.new ≡ N.taken notes.old))
-        ⊎ (IsPartlyNoted words.now (Rose (S.faults input.old) (S.faults input.new)) bytes (N.taken notes.old) (N.taken notes.new) × (K.taken output.new ≡ K.taken output.old)) }
+        → (IsPartlyAnswered words.now bytes (K.taken output.old) (K.taken output.new)
+        × (N.taken notes.new ≡ N.taken notes.old) × Rose (K.faults output.old) (K.faults output.new))
+        ⊎ (IsPartlyNoted words.now (Rose (S.faults input.old) (S.faults input.new)) bytes (N.taken notes.old) (N.taken notes.new)
+        × (K.taken output.new ≡ K.taken output.old) × Rose (N.faults notes.old) (N.faults notes.new)) }
 
     // Once more bytes than the limit came, no more is asked.
     ensures budget { GaveAtMost (most_input + 1) (S.left input.old) (S.left input.new) }

@@ -18,7 +18,7 @@ returns-then-is_err-clause-usage g c = λ is.
 pub returns-then-is_err-clause-cut_short : goal.returns-then-is_err-clause-cut_short
 returns-then-is_err-clause-cut_short g c = λ cut bytes told.
     let unlawful : IsArcs c.args.words.now → ⊥ = search rules in
-    partly_noted c.args.words.now _ bytes 2 c.say.result usage_line _ _ _ (HasLine.usage unlawful) c.say.ensures.part _ cut
+    partly_noted c.args.words.now _ bytes 2 c.say.result usage_line _ _ _ _ (HasLine.usage unlawful) c.say.ensures.part c.say.ensures.fault _ cut
 
 pub returns-in-Err-TooLong-clause-noted : goal.returns-in-Err-TooLong-clause-noted
 returns-in-Err-TooLong-clause-noted g c = λ p q r bytes told.
@@ -29,8 +29,8 @@ returns-in-Err-TooLong-clause-noted g c = λ p q r bytes told.
 pub returns-in-Err-TooLong-clause-cut_short : goal.returns-in-Err-TooLong-clause-cut_short
 returns-in-Err-TooLong-clause-cut_short g c = λ cut bytes told.
     let lawful : IsArcs c.args.words.now = c.read_words.ensures.0 (search rules) in
-    partly_noted c.args.words.now _ bytes 1 c.say-in-Err-TooLong.result too_long_line _ _ _
-    (HasLine.too_long lawful (longer _ _ bytes (c.read_whole.ensures.long (search rules)) told)) c.say-in-Err-TooLong.ensures.part _ cut
+    partly_noted c.args.words.now _ bytes 1 c.say-in-Err-TooLong.result too_long_line _ _ _ _
+    (HasLine.too_long lawful (longer _ _ bytes (c.read_whole.ensures.long (search rules)) told)) c.say-in-Err-TooLong.ensures.part c.say-in-Err-TooLong.ensures.fault _ cut
 
 pub returns-in-Err-ReadFault-clause-noted : goal.returns-in-Err-ReadFault-clause-noted
 returns-in-Err-ReadFault-clause-noted g c = λ p q r bytes told.
@@ -46,8 +46,8 @@ returns-in-Err-ReadFault-clause-read_fault g c = λ is.
 pub returns-in-Err-ReadFault-clause-cut_short : goal.returns-in-Err-ReadFault-clause-cut_short
 returns-in-Err-ReadFault-clause-cut_short g c = λ cut bytes told.
     let lawful : IsArcs c.args.words.now = c.read_words.ensures.0 (search rules) in
-    partly_noted c.args.words.now _ bytes 4 c.say-in-Err-ReadFault.result read_fault_line _ _ _
-    (HasLine.read_fault lawful (c.read_whole.ensures.fault (search rules))) c.say-in-Err-ReadFault.ensures.part _ cut
+    partly_noted c.args.words.now _ bytes 4 c.say-in-Err-ReadFault.result read_fault_line _ _ _ _
+    (HasLine.read_fault lawful (c.read_whole.ensures.fault (search rules))) c.say-in-Err-ReadFault.ensures.part c.say-in-Err-ReadFault.ensures.fault _ cut
 
 pub returns-in-Err-NotBuilt-clause-noted : goal.returns-in-Err-NotBuilt-clause-noted
 returns-in-Err-NotBuilt-clause-noted g c = λ p q r bytes told.
@@ -62,10 +62,10 @@ pub returns-in-Err-NotBuilt-clause-cut_short : goal.returns-in-Err-NotBuilt-clau
 returns-in-Err-NotBuilt-clause-cut_short g c = λ cut bytes told.
     let lawful : IsArcs c.args.words.now = c.read_words.ensures.0 (search rules) in
     let whole = c.in-Ok.ensures.all bytes told in
-    partly_noted c.args.words.now _ bytes 1 c.say-in-Err-NotBuilt.result not_built_line _ _ _
+    partly_noted c.args.words.now _ bytes 1 c.say-in-Err-NotBuilt.result not_built_line _ _ _ _
     (HasLine.not_built lawful (omega (arith, c.in-Ok.ensures.short, ap length whole))
     (not_built bytes _ _ c.deref.ensures.value whole (c.read_one_loop.ensures.only (search rules))))
-    c.say-in-Err-NotBuilt.ensures.part _ cut
+    c.say-in-Err-NotBuilt.ensures.part c.say-in-Err-NotBuilt.ensures.fault _ cut
 
 pub returns-in-Ok-write_all-clause-answered : goal.returns-in-Ok-write_all-clause-answered
 returns-in-Ok-write_all-clause-answered g c = λ is bytes told.
@@ -79,7 +79,8 @@ pub returns-clause-cut_short : goal.returns-clause-cut_short
 returns-clause-cut_short g c = λ is bytes told.
     let lawful : IsArcs c.args.words.now = c.read_words.ensures.0 (search rules) in
     inl (
-      partly_answered c.args.words.now bytes _ _ _ _ c.in-Ok-read_one_loop.unit _ _ lawful c.deref.ensures.value (c.in-Ok.ensures.all bytes told)
+      partly_answered c.args.words.now bytes _ _ _ _ c.in-Ok-read_one_loop.unit _ _ lawful c.deref.ensures.value (c.in-Ok.ensures.all bytes told) c.in-Ok.ensures.short
           c.in-Ok-read_one_loop.ensures.sound c.in-Ok-table.ensures c.deref-2.ensures.value c.in-Err-write_all.ensures.part,
       refl,
+      c.in-Err-write_all.ensures.fault,
     )
