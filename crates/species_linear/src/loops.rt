@@ -83,7 +83,8 @@ pub struct Direction {
     pub outer: u32,
     /// The level, counted from 0 in the nest.
     pub level: u32,
-    /// Whether the first reference's iterator is below the second's there ("less"), or above it
-    /// ("greater").
+    /// Whether the first reference's coordinate is below the second's there ("less"), or above it
+    /// ("greater"). The coordinate is the loop's counter where its start is a constant, and else the
+    /// iterator.
     pub less: bool,
 }
