@@ -181,33 +181,63 @@ fn doubling(alloc: Global) -> Result<Unit, OutOfMemory> {
     Ok(made)
 }
 
-/// The mean of three neighbours in a row, under a species line and a parallel mark.
+/// The mean of three neighbours in a row.
+fn mean_loop(alloc: Global) -> Result<Loop, OutOfMemory> {
+    let body = list(alloc, assign(alloc, 1, b"ij", b"ij1-XijX+ij1+X+3/")?)?;
+    let limit = expr(alloc, b"61-")?;
+    count(alloc, b"j", 1, limit, body)
+}
+
+fn rows_loop(alloc: Global) -> Result<Loop, OutOfMemory> {
+    let body = list(alloc, Stmt::For(mean_loop(alloc)?))?;
+    let limit = expr(alloc, b"61-")?;
+    count(alloc, b"i", 1, limit, body)
+}
+
+fn line(alloc: Global) -> Result<LineText, OutOfMemory> {
+    Ok(LineText::new(Vec::from_slice(alloc, b"none -> none")?, 0))
+}
+
+/// The same under a species line and a parallel mark.
 fn blur_loop(alloc: Global) -> Result<Loop, OutOfMemory> {
-    let mean = assign(alloc, 1, b"ij", b"ij1-XijX+ij1+X+3/")?;
-    let inner = count(alloc, b"j", 1, expr(alloc, b"61-")?, list(alloc, mean)?)?;
-    let body = list(alloc, Stmt::For(inner))?;
-    let mut outer = count(alloc, b"i", 1, expr(alloc, b"61-")?, body)?;
-    outer.line = Some(LineText::new(Vec::from_slice(alloc, b"none -> none")?, 0));
-    outer.mark = Mark::Parallel {
+    let line = line(alloc)?;
+    let mut head = rows_loop(alloc)?;
+    head.line = Some(line);
+    head.mark = Mark::Parallel {
         depth: 2,
         schedule: Schedule::StaticBy(64),
     };
-    Ok(outer)
+    Ok(head)
+}
+
+fn included(alloc: Global) -> Result<Unit, OutOfMemory> {
+    let mut made = unit(alloc, list(alloc, Stmt::For(blur_loop(alloc)?))?)?;
+    made.includes.push(Name::new(alloc, b"<stdint.h>")?)?;
+    Ok(made)
 }
 
 fn blur(alloc: Global) -> Result<Unit, OutOfMemory> {
-    let outer = blur_loop(alloc)?;
-    let mut made = unit(alloc, list(alloc, Stmt::For(outer))?)?;
-    made.includes.push(Name::new(alloc, b"<stdint.h>")?)?;
+    let mut made = included(alloc)?;
     made.arrays.push(array(alloc, b"a", &[6, 6])?)?;
     made.arrays.push(array(alloc, b"b", &[6, 6])?)?;
     Ok(made)
 }
 
+/// Whether the unit, without its marks, is printed so, and its front as the first lines of it.
+fn shows(alloc: Global, made: &Unit, text: &[u8]) -> Result<bool, OutOfMemory> {
+    let whole = printed(alloc, made)?;
+    let mut front = Vec::new(alloc);
+    print_front(alloc, made, &mut front)?;
+    Ok(
+        whole.as_slice() == text
+            && text.starts_with(front.as_slice())
+            && front.as_slice().ends_with(b"void k(void) {\n"),
+    )
+}
+
 #[test]
-fn a_doubling_and_a_blur(rt: HostRuntime) -> Result<(), Fail> {
-    let alloc = rt.alloc();
-    let double = b"int A[64];
+fn a_doubling(rt: HostRuntime) -> Result<(), Fail> {
+    let text = b"int A[64];
 int B[64];
 void k(void) {
     for (int i = 0; i < 64; i++) {
@@ -215,7 +245,15 @@ void k(void) {
     }
 }
 ";
-    let mean = b"#include <stdint.h>
+    let alloc = rt.alloc();
+    let made = doubling(alloc)?;
+    assert!(rt; shows(alloc, &made, text)?, "the doubling");
+    Ok(())
+}
+
+#[test]
+fn a_blur(rt: HostRuntime) -> Result<(), Fail> {
+    let text = b"#include <stdint.h>
 int a[6][6];
 int b[6][6];
 void k(void) {
@@ -227,17 +265,9 @@ void k(void) {
     }
 }
 ";
-    let cases = [
-        (doubling(alloc)?, double.as_slice()),
-        (blur(alloc)?, mean.as_slice()),
-    ];
-    for (made, text) in &cases {
-        assert_eq!(rt; printed(alloc, made)?.as_slice(), *text);
-        let mut front = Vec::new(alloc);
-        print_front(alloc, made, &mut front)?;
-        assert!(rt; text.starts_with(front.as_slice()));
-        assert!(rt; front.as_slice().ends_with(b"void k(void) {\n"));
-    }
+    let alloc = rt.alloc();
+    let made = blur(alloc)?;
+    assert!(rt; shows(alloc, &made, text)?, "the blur");
     Ok(())
 }
 
@@ -362,17 +392,25 @@ fn a_loop(rt: HostRuntime) -> Result<(), Fail> {
 }
 
 #[test]
-fn a_statement_and_its_head(rt: HostRuntime) -> Result<(), Fail> {
+fn the_head_of_a_statement(rt: HostRuntime) -> Result<(), Fail> {
     let alloc = rt.alloc();
     let made = unit(alloc, Items::new(alloc))?;
     let mut text = Vec::new(alloc);
     let stmt = Stmt::For(idle_loop(alloc)?);
     print_head(alloc, &made, &stmt, &[], 2, &mut text)?;
+    let want = b"        for (int i = 0; i < 2; i++) {\n";
+    assert!(rt; text.as_slice() == want.as_slice(), "the head");
+    Ok(())
+}
+
+#[test]
+fn a_statement(rt: HostRuntime) -> Result<(), Fail> {
+    let alloc = rt.alloc();
+    let made = unit(alloc, Items::new(alloc))?;
+    let mut text = Vec::new(alloc);
+    let stmt = Stmt::For(idle_loop(alloc)?);
     print_stmt(alloc, &made, &stmt, &[], 0, &mut text)?;
-    let want = b"        for (int i = 0; i < 2; i++) {\nfor (int i = 0; i < 2; i++) {\n}\n";
-    assert!(rt;
-        text.as_slice() == want.as_slice(),
-        "the head and the statement"
-    );
+    let want = b"for (int i = 0; i < 2; i++) {\n}\n";
+    assert!(rt; text.as_slice() == want.as_slice(), "the statement");
     Ok(())
 }
