@@ -1,6 +1,9 @@
 -- When a loop and a statement have the names that they need, by their parts.
 use Rattle.std.proofs.Common.{◌≡◌, ◌∙◌, ap, refl, ℕ, ◌+◌, Bool, true, List, [], ◌∷◌, map, ◌&&◌}
+use Rattle.std.proofs.Common.{sym, subst, arith, zero, suc, ◌<◌, ◌++◌, length, slice_index_or}
+use Rattle.std.specs.Prelude.{All}
 use Rattle.std.specs.List.{list_all}
+use Rattle.species_print.specs.Named.{IsNamed, IsNamedLoop, HasHead, head_test}
 use Rattle.species_ast.specs.declared.tree.Expr.TheVariants as expr
 use Rattle.species_ast.specs.declared.tree.Loop.{Loop, out-Loop, fold-Loop}
 use Rattle.species_ast.specs.declared.tree.Stmt.{Stmt, fold-Stmt}
@@ -33,3 +36,17 @@ names-loop u levels l =
 
 pub names-For : (u : Unit) (levels : ℕ) (l : Loop) → named u (stmt.For l) levels ≡ named_in u l levels
 names-For u levels l = ap (λ f. f levels) (fold_stmt-For (stmt_names u) (loop_names u) l)
+
+-- a list of one loop
+pub one_named : (u : Unit) (l : Loop) (all : List Stmt) → all ≡ [] ++ stmt.For l ∷ [] → IsNamedLoop u 0 l → All (IsNamed u 0) all × All HasHead all
+one_named u l all is h = subst (λ x. All (IsNamed u 0) x × All HasHead x) (sym is) (
+  (λ k d lt. first (λ s. IsNamed u 0 s) k d lt (names-For u 0 l ∙ h)),
+  (λ k d lt. first HasHead k d lt (ap head_test (stmt.outs-For l))),
+)
+  where
+    first : (P : Stmt → Type 0) (k : ℕ) (d : Stmt) → k < 1 → P (stmt.For l) → P (slice_index_or (stmt.For l ∷ []) k d)
+    first P zero d lt p = p
+    first P (suc k) d lt p = absurd (omega (arith, lt))
+
+pub named_item : (P : Stmt → Type 0) (all : List Stmt) (k : ℕ) (s : Stmt) → All P all → s ≡ slice_index_or all k s → k < length all → P s
+named_item P all k s h is lt = subst P (sym is) (h k s lt)

@@ -1,6 +1,6 @@
-ghost use Rattle.std.specs.Prelude.{IfOk};
+ghost use Rattle.std.specs.Prelude.{IfOk, All};
 ghost use Rattle.species_ast.specs.declared.tree.Unit.{Unit};
-ghost use Rattle.species_print.specs.Named.{IsNamedLoop};
+ghost use Rattle.species_print.specs.Named.{IsNamed, IsNamedLoop, HasHead};
 
 use crate::{print, print_front, print_head, print_loop, print_stmt};
 use species_ast::{
@@ -391,13 +391,25 @@ fn a_loop(rt: HostRuntime) -> Result<(), Fail> {
     Ok(())
 }
 
+/// A list of this loop alone, in which it has its names.
+fn idle(alloc: Global) -> Result<Items<Stmt>, OutOfMemory>
+    ensures { (u : Unit) → IfOk result (λ all. All (IsNamed u 0) all × All HasHead all) }
+{
+    let head = idle_loop(alloc)?;
+    let mut all = Items::new(alloc);
+    all.push(Stmt::For(head))?;
+    Ok(all)
+}
+
 #[test]
 fn the_head_of_a_statement(rt: HostRuntime) -> Result<(), Fail> {
     let alloc = rt.alloc();
     let made = unit(alloc, Items::new(alloc))?;
     let mut text = Vec::new(alloc);
-    let stmt = Stmt::For(idle_loop(alloc)?);
-    print_head(alloc, &made, &stmt, &[], 2, &mut text)?;
+    let all = idle(alloc)?;
+    for stmt in all.as_slice() {
+        print_head(alloc, &made, stmt, &[], 2, &mut text)?;
+    }
     let want = b"        for (int i = 0; i < 2; i++) {\n";
     assert!(rt; text.as_slice() == want.as_slice(), "the head");
     Ok(())
@@ -408,8 +420,10 @@ fn a_statement(rt: HostRuntime) -> Result<(), Fail> {
     let alloc = rt.alloc();
     let made = unit(alloc, Items::new(alloc))?;
     let mut text = Vec::new(alloc);
-    let stmt = Stmt::For(idle_loop(alloc)?);
-    print_stmt(alloc, &made, &stmt, &[], 0, &mut text)?;
+    let all = idle(alloc)?;
+    for stmt in all.as_slice() {
+        print_stmt(alloc, &made, stmt, &[], 0, &mut text)?;
+    }
     let want = b"for (int i = 0; i < 2; i++) {\n}\n";
     assert!(rt; text.as_slice() == want.as_slice(), "the statement");
     Ok(())
