@@ -271,6 +271,44 @@ void k(void) {
     Ok(())
 }
 
+/// A sum of products over the columns of a matrix, for each row.
+fn sum_loop(alloc: Global) -> Result<Loop, OutOfMemory> {
+    let body = list(alloc, set(alloc, b"aijXjB*+")?)?;
+    let limit = Expr::Literal(Value::Int(128));
+    count(alloc, b"j", 0, limit, body)
+}
+
+fn sum_nest(alloc: Global) -> Result<Loop, OutOfMemory> {
+    let body = list(alloc, Stmt::For(sum_loop(alloc)?))?;
+    let limit = Expr::Literal(Value::Int(64));
+    count(alloc, b"i", 0, limit, body)
+}
+
+fn sum(alloc: Global) -> Result<Unit, OutOfMemory> {
+    let mut made = unit(alloc, list(alloc, Stmt::For(sum_nest(alloc)?))?)?;
+    made.arrays.push(array(alloc, b"M", &[64, 128])?)?;
+    made.arrays.push(array(alloc, b"x", &[128])?)?;
+    Ok(made)
+}
+
+#[test]
+fn a_sum(rt: HostRuntime) -> Result<(), Fail> {
+    let text = b"int M[64][128];
+int x[128];
+void k(void) {
+    for (int i = 0; i < 64; i++) {
+        for (int j = 0; j < 128; j++) {
+            a = a + M[i][j] * x[j];
+        }
+    }
+}
+";
+    let alloc = rt.alloc();
+    let made = sum(alloc)?;
+    assert!(rt; shows(alloc, &made, text)?, "the sum");
+    Ok(())
+}
+
 /// A loop down by 3 with an `if` that has both parts.
 fn choice(alloc: Global) -> Result<Stmt, OutOfMemory> {
     let body = list(alloc, assign(alloc, 0, b"i", b"aiA*b+")?)?;
