@@ -41,7 +41,7 @@ use Rattle.species_ast.specs.declared.raw.RawLoop.{roll-RawLoop}
 use Rattle.species_ast.specs.declared.raw.RawWhat.TheVariants as what
 use Rattle.species_ast.specs.declared.raw.RawUnit.{RawUnit}
 use Rattle.species_ast.specs.Scope.Meanings.{Scope}
-use Rattle.species_ast.specs.Scope.Expressions.{ExprReading, Target, reading, target_in, taken, two_parts}
+use Rattle.species_ast.specs.Scope.Expressions.{ExprReading, ResolvedTarget, reading, target_in, taken, two_parts}
 use Rattle.species_ast.specs.Scope.Statements.{Walk, StepReading, step_by, step_one, step_reading, in_order, local_piece, declarator, change_by, change_by_one, operated, increased, combined, atomic_piece, if_piece, block_piece, empty_piece, loop_piece, stmt_piece}
 use Rattle.species_ast.specs.Scope.Programs.{SizeParts, size_parts, ArrayParts, Program, program_with, in_two_walks, program_of, arrays_of, header_of}
 use Rattle.species_ast.specs.Scope.Refusals.{Limit, Refusal, Finding}
@@ -83,7 +83,7 @@ num p n = record {
 -- a name with subscripts, as a target ..
 record KnownTarget : Type 0 where
   raw : RawTarget
-  reads : Scope → Target
+  reads : Scope → ResolvedTarget
   is : target_in raw ≡ reads
 
 abbrev spot : ℕ → String → List Known → KnownTarget

@@ -21,20 +21,20 @@ use Rattle.species_ast.specs.declared.raw.RawLoop.{RawLoop, roll-RawLoop, fold-R
 use Rattle.species_ast.specs.declared.raw.RawWhat.TheOpen.{RawWhat-F, RawLoop-F}
 use Rattle.species_ast.specs.declared.raw.RawWhat.TheVariants as what
 use Rattle.species_ast.specs.Scope.Meanings.{Scope, meaning_of}
-use Rattle.species_ast.specs.Scope.Expressions.{ExprReading, Target, reading, target_in, taken, term_at, expr_at, target_at, one_part, two_parts, unary_expr, exprs_of, names_of}
+use Rattle.species_ast.specs.Scope.Expressions.{ExprReading, ResolvedTarget, reading, target_in, taken, term_at, expr_at, target_at, one_part, two_parts, unary_expr, exprs_of, names_of}
 use Rattle.species_ast.specs.Scope.Statements.{Walk, PlacedWalk, Parts, in_order, declarator, change_piece, step_reading, loop_piece, if_piece, block_piece, empty_piece, atomic_piece, what_at, loop_at, stmt_at, stmt_piece}
 
 -- ---- expressions
 
 abbrev term_reading : Scope → RawTerm → ExprReading
-term_reading s = fold-RawTerm ExprReading ExprReading Target (term_at s) expr_at (target_at s)
+term_reading s = fold-RawTerm ExprReading ExprReading ResolvedTarget (term_at s) expr_at (target_at s)
 
 at_place : (p : ℕ) (t : RawTerm) (s : Scope) → reading (expression p t) s ≡ term_reading s t
-at_place p t s = fold-roll-RawExpr ExprReading ExprReading Target (term_at s) expr_at (target_at s) (record { place = p; what = t })
+at_place p t s = fold-roll-RawExpr ExprReading ExprReading ResolvedTarget (term_at s) expr_at (target_at s) (record { place = p; what = t })
 
 rolled : (s : Scope) (f : RawTerm-F RawTerm RawExpr RawTarget) → term_reading s (roll-RawTerm f)
-    ≡ term_at s (map-RawTerm RawTerm RawExpr RawTarget ExprReading ExprReading Target (term_reading s) (λ e. reading e s) (λ t. target_in t s) f)
-rolled s f = fold-roll-RawTerm ExprReading ExprReading Target (term_at s) expr_at (target_at s) f
+    ≡ term_at s (map-RawTerm RawTerm RawExpr RawTarget ExprReading ExprReading ResolvedTarget (term_reading s) (λ e. reading e s) (λ t. target_in t s) f)
+rolled s f = fold-roll-RawTerm ExprReading ExprReading ResolvedTarget (term_at s) expr_at (target_at s) f
 
 pub reading-Number : (p : ℕ) (v : Value) (s : Scope) → reading (expression p (term.Number v)) s ≡ record { expr = expr.Literal v; names = [] }
 reading-Number p v s = at_place p (term.Number v) s ∙ ap (term_reading s) (sym (term.rolls-Number v)) ∙ rolled s (RawTerm-F.Number v)
@@ -73,11 +73,11 @@ abbrev pub readings : List RawExpr → Scope → List ExprReading
 readings es s = map (λ e. reading e s) es
 
 -- a name and what its subscripts become
-abbrev pub target_with : Spelling → List ExprReading → Scope → Target
+abbrev pub target_with : Spelling → List ExprReading → Scope → ResolvedTarget
 target_with n subs s = record { name = n; means = meaning_of s n; subs = exprs_of subs; names = names_of subs }
 
 pub target_in-target : (n : Spelling) (subs : List RawExpr) (s : Scope) → target_in (target n subs) s ≡ target_with n (readings subs s) s
-target_in-target n subs s = fold-roll-RawTarget ExprReading ExprReading Target (term_at s) expr_at (target_at s) (record { name = n; subs = subs })
+target_in-target n subs s = fold-roll-RawTarget ExprReading ExprReading ResolvedTarget (term_at s) expr_at (target_at s) (record { name = n; subs = subs })
 
 -- ---- statements
 

@@ -9,7 +9,7 @@ use Rattle.species_ast.specs.declared.tree.Loop.{out-Loop}
 use Rattle.species_ast.specs.declared.tree.Unit.{Unit}
 use Rattle.species_ast.specs.declared.raw.RawUnit.{RawUnit}
 use Rattle.species_ast.specs.Scope.Forms.{form_of, iterators_in}
-use Rattle.species_ast.specs.Scope.Meanings.{Meaning, is_among, Role, Declared, Taken, Set, Iterates, InHeader, Occurrence}
+use Rattle.species_ast.specs.Scope.Meanings.{Meaning, is_among, Role, Declared, Taken, Assigned, Iterates, InHeader, Occurrence}
 use Rattle.species_ast.specs.Scope.Limits.{most_loops, most_dimensions, most_step, most_references, has_lawful_sizes, goes, NestLimits, larger_than}
 use Rattle.species_ast.specs.Scope.Nests.{front_of, is_bad_mark}
 use Rattle.species_ast.specs.Scope.Programs.{Program, iterators_of, program_of}
@@ -42,7 +42,7 @@ takes m n = nat_eq n 0
 -- DimensionCount: a name has another number of subscripts than it takes
 abbrev pub is_miscounted_as : Role → Option Meaning → Bool
 is_miscounted_as (Taken n) (Some m) = not (takes m n)
-is_miscounted_as (Set n) (Some m) = not (takes m n)
+is_miscounted_as (Assigned n) (Some m) = not (takes m n)
 is_miscounted_as role means = false
 
 abbrev pub is_miscounted : Occurrence → Bool
@@ -60,7 +60,7 @@ is_free m = false
 
 -- IteratorAssigned: an iterator is set in its loop, or a loop without `int` has a name that is not free
 abbrev pub is_assigned_as : Role → Option Meaning → Bool
-is_assigned_as (Set n) (Some (Meaning.Iterator level)) = true
+is_assigned_as (Assigned n) (Some (Meaning.Iterator level)) = true
 is_assigned_as Iterates (Some m) = not (is_free m)
 is_assigned_as role means = false
 
@@ -71,7 +71,7 @@ is_assigned_iterator o = is_assigned_as o.role (usable o.means)
 -- iterator
 abbrev pub is_outside_as : List ℕ → Role → Option Meaning → Bool
 is_outside_as iterators (Taken n) (Some (Meaning.Variable x)) = is_among iterators x.serial
-is_outside_as iterators (Set n) (Some (Meaning.Variable x)) = is_among iterators x.serial
+is_outside_as iterators (Assigned n) (Some (Meaning.Variable x)) = is_among iterators x.serial
 is_outside_as iterators InHeader (Some (Meaning.Variable x)) = is_among iterators x.serial
 is_outside_as iterators role means = false
 

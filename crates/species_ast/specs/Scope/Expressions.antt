@@ -18,7 +18,7 @@ pub record ExprReading : Type 0 where
   pub names : List Occurrence
 
 -- a name with subscripts: what it means, the subscripts, and the names that stand in them
-pub record Target : Type 0 where
+pub record ResolvedTarget : Type 0 where
   pub name : Spelling
   pub means : Option Meaning
   pub subs : List Expr
@@ -35,7 +35,7 @@ abbrev pub nothing : Expr
 nothing = expr.Literal (Int (pos 0))
 
 -- the value of a target: an element of an array, a local, or the iterator of a loop by its level
-abbrev pub value_of : Scope → Target → Expr
+abbrev pub value_of : Scope → ResolvedTarget → Expr
 value_of s t = elim t.means [
   | Some m ↦ elim m [
     | Meaning.Array a n ↦ expr.Elem a t.subs
@@ -47,7 +47,7 @@ value_of s t = elim t.means [
 ]
 
 -- a target whose value is taken
-abbrev pub taken : Scope → Target → ExprReading
+abbrev pub taken : Scope → ResolvedTarget → ExprReading
 taken s t = record { expr = value_of s t; names = occurrence (Taken (length t.subs)) s t.name ∷ t.names }
 
 -- unary `+` leaves nothing behind
@@ -63,7 +63,7 @@ one_part make a = record { expr = make a.expr; names = a.names }
 abbrev pub two_parts : (Expr → Expr → Expr) → ExprReading → ExprReading → ExprReading
 two_parts make a b = record { expr = make a.expr b.expr; names = a.names ++ b.names }
 
-abbrev pub term_at : Scope → RawTerm-F ExprReading ExprReading Target → ExprReading
+abbrev pub term_at : Scope → RawTerm-F ExprReading ExprReading ResolvedTarget → ExprReading
 term_at s (RawTerm-F.Number v) = record { expr = expr.Literal v; names = [] }
 term_at s (RawTerm-F.Target t) = taken s t
 term_at s (RawTerm-F.Paren a) = a
@@ -74,16 +74,16 @@ term_at s (RawTerm-F.And a b) = two_parts expr.And a b
 term_at s (RawTerm-F.Or a b) = two_parts expr.Or a b
 term_at s (RawTerm-F.Cond c a b) = record { expr = expr.Cond c.expr a.expr b.expr; names = c.names ++ (a.names ++ b.names) }
 
-abbrev pub expr_at : RawExpr-F ExprReading ExprReading Target → ExprReading
+abbrev pub expr_at : RawExpr-F ExprReading ExprReading ResolvedTarget → ExprReading
 expr_at e = e.what
 
-abbrev pub target_at : Scope → RawTarget-F ExprReading ExprReading Target → Target
+abbrev pub target_at : Scope → RawTarget-F ExprReading ExprReading ResolvedTarget → ResolvedTarget
 target_at s t = record { name = t.name; means = meaning_of s t.name; subs = exprs_of t.subs; names = names_of t.subs }
 
 -- What an expression becomes in a scope, and the names in it.
 abbrev pub reading : RawExpr → Scope → ExprReading
-reading e s = fold-RawExpr ExprReading ExprReading Target (term_at s) expr_at (target_at s) e
+reading e s = fold-RawExpr ExprReading ExprReading ResolvedTarget (term_at s) expr_at (target_at s) e
 
 -- What a target means in a scope, and the names in its subscripts.
-abbrev pub target_in : RawTarget → Scope → Target
-target_in t s = fold-RawTarget ExprReading ExprReading Target (term_at s) expr_at (target_at s) t
+abbrev pub target_in : RawTarget → Scope → ResolvedTarget
+target_in t s = fold-RawTarget ExprReading ExprReading ResolvedTarget (term_at s) expr_at (target_at s) t

@@ -46,8 +46,8 @@ abbrev pub declared : Spelling → Meaning → Scope → Scope
 declared name m s = record s { names = (name.text, m) ∷ s.names }
 
 -- behind the declarator of a local
-abbrev pub with_local : Spelling → Local → Scope → Scope
-with_local name x s = record s { names = (name.text, Variable x) ∷ s.names; serials = suc s.serials }
+abbrev pub declare_local : Spelling → Local → Scope → Scope
+declare_local name x s = record s { names = (name.text, Variable x) ∷ s.names; serials = suc s.serials }
 
 -- in the limit, the step and the body of a loop (C17 6.8.5)
 abbrev pub in_loop : Spelling → Bool → Scope → Scope
@@ -79,7 +79,7 @@ pub data Role : Type 0 where
   Declared : Role
   -- its value is taken, or the name is set, with so many subscripts
   Taken : ℕ → Role
-  Set : ℕ → Role
+  Assigned : ℕ → Role
   -- a loop without `int` has it as its iterator
   Iterates : Role
   -- it stands before a loop's comparison or in its step, where the iterator should

@@ -28,8 +28,8 @@ use Rattle.species_ast.specs.declared.raw.RawStmt.{RawStmt, fold-RawStmt}
 use Rattle.species_ast.specs.declared.raw.RawWhat.TheOpen.{RawWhat-F, RawStmt-F, RawLoop-F}
 use Rattle.species_ast.specs.Grammar.Expressions.{place_of}
 use Rattle.species_ast.specs.Scope.Forms.{constant_of}
-use Rattle.species_ast.specs.Scope.Meanings.{Meaning, Scope, with_local, in_loop, behind, is_among, local_number, Role, Declared, Set, Iterates, InHeader, Occurrence, occurrence}
-use Rattle.species_ast.specs.Scope.Expressions.{ExprReading, Target, reading, target_in, value_of}
+use Rattle.species_ast.specs.Scope.Meanings.{Meaning, Scope, declare_local, in_loop, behind, is_among, local_number, Role, Declared, Assigned, Iterates, InHeader, Occurrence, occurrence}
+use Rattle.species_ast.specs.Scope.Expressions.{ExprReading, ResolvedTarget, reading, target_in, value_of}
 use Rattle.species_ast.specs.Scope.Nests.{is_parallel}
 
 -- ---- what is noted
@@ -99,7 +99,7 @@ kept_local k name init s = stmt.Declare name.place (local_number s s.serials) (o
 -- A local is in scope in its own initialiser. One that is the iterator of a loop leaves nothing behind.
 abbrev pub local_piece : Kind → Spelling → Option (Scope → ExprReading) → Walk
 local_piece k name init s =
-    let inner = with_local name (record { serial = s.serials; kind = k; initialised = is_some init }) s in
+    let inner = declare_local name (record { serial = s.serials; kind = k; initialised = is_some init }) s in
     let value = option_map (λ read. read inner) init in
     let names = occurrence Declared s name ∷ unwrap_or (option_map (λ r. r.names) value) [] in
     if is_among s.iterators s.serials then piece [] (names_only names) inner
@@ -114,7 +114,7 @@ abbrev pub one : Expr
 one = expr.Literal (Int (pos 1))
 
 -- the target is set to a value
-abbrev pub assigned : Scope → ℕ → Target → Expr → List Stmt
+abbrev pub assigned : Scope → ℕ → ResolvedTarget → Expr → List Stmt
 assigned s p t v = elim t.means [
   | Some m ↦ elim m [
     | Meaning.Array a n ↦ stmt.Assign p a t.subs v ∷ []
@@ -126,11 +126,11 @@ assigned s p t v = elim t.means [
 ]
 
 -- the target is set to what an operator gives of its value and another
-abbrev pub combined : Scope → ℕ → Binary → Target → Expr → List Stmt
+abbrev pub combined : Scope → ℕ → Binary → ResolvedTarget → Expr → List Stmt
 combined s p o t v = assigned s p t (expr.Binary o (value_of s t) v)
 
 -- a value is added to the target; an addition to a local is never atomic
-abbrev pub increased : Scope → ℕ → Bool → Target → Expr → List Stmt
+abbrev pub increased : Scope → ℕ → Bool → ResolvedTarget → Expr → List Stmt
 increased s p atomic t v = elim t.means [
   | Some m ↦ elim m [
     | Meaning.Array a n ↦ stmt.AddTo p a t.subs v atomic ∷ []
@@ -142,7 +142,7 @@ increased s p atomic t v = elim t.means [
 ]
 
 -- `t = v`, `t += v` and the like
-abbrev pub operated : Scope → ℕ → RawOp → Target → Expr → List Stmt
+abbrev pub operated : Scope → ℕ → RawOp → ResolvedTarget → Expr → List Stmt
 operated s p op.Plain t v = assigned s p t v
 operated s p op.Add t v = increased s p false t v
 operated s p op.Sub t v = combined s p binary.Sub t v
@@ -156,17 +156,17 @@ operated s p op.Shl t v = combined s p binary.Shl t v
 operated s p op.Shr t v = combined s p binary.Shr t v
 
 -- the names of a target that is set
-abbrev pub set_names : Scope → Target → List Occurrence
-set_names s t = occurrence (Set (length t.subs)) s t.name ∷ t.names
+abbrev pub set_names : Scope → ResolvedTarget → List Occurrence
+set_names s t = occurrence (Assigned (length t.subs)) s t.name ∷ t.names
 
 -- a change of a target by a value, and one of a target alone
-abbrev pub change_by : (Scope → Target → Expr → List Stmt) → (Scope → Target) → (Scope → ExprReading) → Walk
+abbrev pub change_by : (Scope → ResolvedTarget → Expr → List Stmt) → (Scope → ResolvedTarget) → (Scope → ExprReading) → Walk
 change_by becomes target value s =
     let t = target s in
     let v = value s in
     piece (becomes s t v.expr) (names_only (set_names s t ++ v.names)) s
 
-abbrev pub change_by_one : (Scope → Target → Expr → List Stmt) → (Scope → Target) → Walk
+abbrev pub change_by_one : (Scope → ResolvedTarget → Expr → List Stmt) → (Scope → ResolvedTarget) → Walk
 change_by_one becomes target s = let t = target s in piece (becomes s t one) (names_only (set_names s t)) s
 
 abbrev pub change_piece : ℕ → RawChange → Walk
@@ -177,7 +177,7 @@ change_piece p (change.Down t) = change_by_one (λ s. combined s p binary.Sub) (
 change_piece p (change.DownBefore t) = change_by_one (λ s. combined s p binary.Sub) (target_in t)
 
 -- an addition under a pragma that makes it atomic
-abbrev pub atomic_piece : ℕ → (Scope → Target) → (Scope → ExprReading) → Walk
+abbrev pub atomic_piece : ℕ → (Scope → ResolvedTarget) → (Scope → ExprReading) → Walk
 atomic_piece p = change_by (λ s. increased s p true)
 
 -- ---- loops (C17 6.8.5)
