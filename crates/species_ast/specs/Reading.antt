@@ -21,14 +21,20 @@ Reads text u = (ts : List Token) × HasTokens text ts × Derives ts u
 abbrev pub IsRefusedByText : List ℕ → LexRefusal → Type 0
 IsRefusedByText text r = (s : TokenStream) × IsCut text s × (s.refusal ≡ Some r)
 
+-- the load of its tokens passes the limit
 abbrev pub IsRefusedByLoad : List ℕ → ℕ → Type 0
 IsRefusedByLoad text place = (ts : List Token) × HasTokens text ts × (load_refusal ts ≡ Some place)
 
-abbrev pub IsRefusedByGrammar : List ℕ → ℕ → Type 0
-IsRefusedByGrammar text place = (ts back : List Token) × HasTokens text ts × (load_refusal ts ≡ None) × SyntaxErrorBefore ts back × (place ≡ place_before (length text) back)
+-- the text has tokens, and their load keeps the limit
+abbrev pub IsWithinLoad : List ℕ → Type 0
+IsWithinLoad text = (ts : List Token) × HasTokens text ts × (load_refusal ts ≡ None)
 
+abbrev pub IsRefusedByGrammar : List ℕ → ℕ → Type 0
+IsRefusedByGrammar text place = IsWithinLoad text × (ts back : List Token) × HasTokens text ts × SyntaxErrorBefore ts back × (place ≡ place_before (length text) back)
+
+-- none of these: the text keeps the limit on load, and it is a program with this tree
 abbrev pub IsAccepted : List ℕ → RawUnit → Type 0
-IsAccepted text u = (ts : List Token) × HasTokens text ts × (load_refusal ts ≡ None) × Derives ts u
+IsAccepted text u = IsWithinLoad text × Reads text u
 
 -- what is said of a text
 pub data Verdict : Type 0 where
