@@ -1,7 +1,7 @@
 -- Laws of access trees: how their runs, accesses and actions compose, and what ties the actions to the run.
-use Rattle.std.proofs.Common.{◌≡◌, refl, ap, sym, ◌∙◌, ℕ, List, [], ◌∷◌, ◌++◌, map, Option, Some, None}
+use Rattle.std.proofs.Common.{◌≡◌, refl, ap, List, [], ◌∷◌, ◌++◌, map, Option, Some, None}
 use Rattle.species_ast.specs.declared.tree.Value.{Value}
-use Rattle.species_ast.specs.Accesses.{Cells, cell, changed, added, Site, Tree, Ret, Stop, Read, Write, Add, then_do, Outcome, Ended, Stopped, run, Access, access, Reads, Writes, Adds, accesses, Action, ReadOf, WriteOf, AddOf, Done, Fault, acts, action_of, answers_in, last_action}
+use Rattle.species_ast.specs.Accesses.{Cells, cell, Site, Tree, Ret, Stop, Read, Write, Add, then_do, Outcome, Ended, Stopped, run, Access, access, Reads, Writes, Adds, accesses, Action, ReadOf, WriteOf, AddOf, Fault, acts, action_of, answers_in, last_action}
 
 -- ---- one after another
 

@@ -1,17 +1,16 @@
 -- A program run from arrays of its own accesses only elements that there are, leaves arrays of its own, and never does
 -- what is forbidden to an iteration alone.
 use Rattle.std.proofs.Common.{◌≡◌, arith, refl, ap, sym, ◌∙◌, subst, ℕ, zero, suc, List, [], ◌∷◌, length, Option, Some, None, ◌⊎◌, inl, inr, ⊎_elim}
-use Rattle.std.specs.Prelude.{slice_get, unwrap_or, option_map, option_and_then, All, ◌<◌, ◌*◌}
+use Rattle.std.specs.Prelude.{slice_get, unwrap_or, option_map, option_and_then, All, ◌<◌}
 use Rattle.species_ast.specs.declared.tree.Array.{Array}
-use Rattle.species_ast.specs.declared.tree.Kind.{Kind}
 use Rattle.species_ast.specs.declared.tree.Kind.TheVariants as kind
 use Rattle.species_ast.specs.declared.tree.Value.{Value}
 use Rattle.species_ast.specs.declared.tree.Unit.{Unit as Program}
-use Rattle.species_ast.specs.Operators.{kind_of, IsValue, reduced, number_of}
-use Rattle.species_ast.specs.Accesses.{Cells, Element, look, cell, change, changed, added, Cause, Forbidden, Tree, Ret, Stop, Read, Write, Add, Outcome, Ended, Stopped, run}
-use Rattle.species_ast.specs.Evaluation.{Frame, Context, array_kind, sizes_of, product}
+use Rattle.species_ast.specs.Operators.{kind_of, IsValue}
+use Rattle.species_ast.specs.Accesses.{Cells, Element, look, cell, change, changed, added, Forbidden, Tree, Ret, Stop, Read, Write, Add, Outcome, Ended, Stopped, run}
+use Rattle.species_ast.specs.Evaluation.{Context, array_kind, sizes_of, product}
 use Rattle.species_ast.specs.Run.{AreArraysOf, source_of, program_of, source_run}
-use Rattle.species_ast.proofs.KindLaws.{HasKind, kind-in_kind, IsAllowed, InArray, Keeps, FrameOf, program_keeps}
+use Rattle.species_ast.proofs.KindLaws.{HasKind, kind-in_kind, IsAllowed, Keeps, FrameOf, program_keeps}
 
 -- the elements that are declared are there, with values of their array's kind
 abbrev pub HasElements : Context → Cells → Type 0

@@ -1,17 +1,16 @@
 -- What a body does as an iteration of a nest is what it does in the source, where it sets only locals that it may set and
 -- adds atomically only to arrays to which it may.
-use Rattle.std.proofs.Common.{◌≡◌, refl, ap, sym, ◌∙◌, subst, ℕ, suc, List, [], ◌∷◌, ◌++◌, map, flat_map, length, Option, Bool, true, false, ◌&&◌, Some, ℤ, if◌then◌else◌}
+use Rattle.std.proofs.Common.{◌≡◌, refl, ap, sym, ◌∙◌, ℕ, suc, List, [], ◌∷◌, map, length, Bool, true, false, ◌&&◌, Some, if◌then◌else◌}
 use Rattle.species_ast.specs.declared.tree.Kind.{Kind}
 use Rattle.species_ast.specs.declared.tree.Expr.{Expr}
 use Rattle.species_ast.specs.declared.tree.Stmt.{Stmt, fold-Stmt}
 use Rattle.species_ast.specs.declared.tree.Stmt.TheOpen.{Stmt-F, Loop-F}
-use Rattle.species_ast.specs.declared.tree.Stmt.TheVariants as s
 use Rattle.species_ast.specs.declared.tree.Loop.{roll-Loop}
 use Rattle.species_ast.specs.Operators.{converted}
-use Rattle.species_ast.specs.Accesses.{Forbidden, Tree, Ret, Stop, Add, then_do}
-use Rattle.species_ast.specs.Evaluation.{Frame, Context, Sense, sense, array_kind, local_kind, with_local, site_at, element_at, elements_in, target_of}
-use Rattle.species_ast.specs.Run.{Doing, Step, step, loop_of, does_list, does_scope, scope_of, plain, spot, setting, adding, addition, looping, branching, iteration_in}
-use Rattle.species_ast.proofs.Folds.{fold_stmt-Assign, fold_stmt-AddTo, fold_stmt-Declare, fold_stmt-SetLocal, fold_stmt-If, fold_stmt-For, fold_stmt-Block, fold_loop}
+use Rattle.species_ast.specs.Accesses.{Forbidden, Ret, Stop, Add, then_do}
+use Rattle.species_ast.specs.Evaluation.{Context, Sense, sense, array_kind, local_kind, with_local, site_at, element_at, elements_in, target_of}
+use Rattle.species_ast.specs.Run.{step, does_scope, scope_of, plain, spot, setting, adding, addition, looping, branching, iteration_in}
+use Rattle.species_ast.proofs.Folds.{fold_stmt-AddTo, fold_stmt-SetLocal, fold_stmt-If, fold_stmt-For, fold_stmt-Block, fold_loop}
 use Rattle.species_ast.proofs.Induction.{Each, each_all, stmt_ind}
 use Rattle.species_ast.proofs.RunLaws.{step-Assign, step-AddTo, step-Declare, step-SetLocal, step-If, step-For, step-Block, loop-roll}
 

@@ -4,33 +4,29 @@ use Rattle.std.proofs.Common.{◌≡◌, arith, refl, ap, sym, ◌∙◌, subst,
 use Rattle.std.specs.Prelude.{slice_get, slice_set, unwrap_or, option_map, option_and_then, nat_lt, ◌<◌, ◌≤◌, ◌*◌}
 use Rattle.std.proofs.Math.Nat.{mul-le-mul_right}
 use Rattle.std.proofs.lemmas.Bool.Decides.{nat_tests}
-use Rattle.std.proofs.lemmas.Bool.{cases_Bool}
 use Rattle.species_ast.specs.declared.tree.Kind.{Kind}
 use Rattle.species_ast.specs.declared.tree.Kind.TheVariants as kind
 use Rattle.species_ast.specs.declared.tree.Value.{Value}
-use Rattle.species_ast.specs.declared.tree.Value.TheVariants.{Int, Unsigned}
+use Rattle.species_ast.specs.declared.tree.Value.TheVariants.{Int}
 use Rattle.species_ast.specs.declared.tree.Unary.{Unary}
 use Rattle.species_ast.specs.declared.tree.Unary.TheVariants.{Neg, Not, LogNot}
 use Rattle.species_ast.specs.declared.tree.Binary.{Binary}
 use Rattle.species_ast.specs.declared.tree.Binary.TheVariants.{Mul, Div, Rem, Add, Sub, Shl, Shr, Lt, Le, Gt, Ge, Eq, Ne, BitAnd, BitXor, BitOr}
 use Rattle.species_ast.specs.declared.tree.Expr.{Expr}
 use Rattle.species_ast.specs.declared.tree.Expr.TheOpen.{Expr-F}
-use Rattle.species_ast.specs.declared.tree.Expr.TheVariants as e
 use Rattle.species_ast.specs.declared.trap.Undefined.TheVariants.{Overflow, DivZero, BadShift}
-use Rattle.species_ast.specs.Operators.{Answer, kind_of, number_of, in_kind, joint, reduced, converted, bits_of, bits_in, is_signed, fits, from_bits, exact_in, quotient, remainder, and_then, truth, is_true, is_count, left_by, right_by, binary_in, binary_of, binary_kind, unary_of, unary_kind, is_shift}
+use Rattle.species_ast.specs.Operators.{Answer, kind_of, number_of, in_kind, joint, reduced, converted, bits_of, fits, exact_in, quotient, and_then, truth, is_true, is_count, left_by, right_by, binary_of, binary_kind, unary_of, unary_kind}
 use Rattle.std.specs.Ordering.{int_eq}
-use Rattle.std.specs.Prelude.{int_div, int_lt, int_le, unsigned_abs, bit_and, bit_or, bit_xor, ◌-ℤ◌, ◌*ℤ◌, not}
+use Rattle.std.specs.Prelude.{int_div, int_lt, unsigned_abs, ◌-ℤ◌, ◌*ℤ◌}
 use Rattle.species_ast.specs.Accesses.{Element, Cause, Trapped, Forbidden, Site, Tree, Ret, Stop, Read, Write, then_do}
 use Rattle.species_ast.specs.Accesses as access
-use Rattle.species_ast.specs.Evaluation.{Frame, Context, Spot, Sense, sense, sense_at, array_kind, local_kind, local_of, with_local, known, answered, tested, indices_in, sizes_of, site_at, values_of, target_of, elements_in, element_at, iterator, index_in, row_order, product}
+use Rattle.species_ast.specs.Evaluation.{Frame, Context, Spot, Sense, sense, sense_at, array_kind, local_kind, local_of, with_local, known, answered, tested, indices_in, sizes_of, site_at, values_of, target_of, elements_in, index_in, row_order, product}
 use Rattle.species_ast.specs.declared.tree.Stmt.{Stmt}
-use Rattle.species_ast.specs.declared.tree.Stmt.TheOpen.{Loop-F}
-use Rattle.species_ast.specs.declared.tree.Stmt.TheVariants as s
 use Rattle.species_ast.specs.declared.tree.LocalInfo.{LocalInfo}
 use Rattle.species_ast.specs.declared.tree.Test.{Test}
 use Rattle.species_ast.specs.declared.tree.Loop.{roll-Loop}
 use Rattle.species_ast.specs.declared.tree.Unit.{Unit as Program}
-use Rattle.species_ast.specs.Run.{Doing, Step, step, list_of, scope_of, does_list, restored, declared_in, turns, inside, outside, looping, iterator_values, assignment, addition, adding, initial, declaring, setting, branching, plain, spot, source_of, first_frame, program_of}
+use Rattle.species_ast.specs.Run.{Step, step, scope_of, does_list, restored, declared_in, turns, inside, outside, looping, assignment, addition, adding, initial, declaring, setting, branching, spot, source_of, first_frame, program_of}
 use Rattle.species_ast.proofs.Induction.{Each, each_all, expr_ind, stmt_ind}
 use Rattle.species_ast.proofs.RunLaws.{sense-Literal, sense-Iter, sense-Local, sense-Elem, sense-Unary, sense-Binary, sense-And, sense-Or, sense-Cond, sense-Cast, step-Assign, step-AddTo, step-Declare, step-SetLocal, step-If, step-For, step-Block, loop-roll}
 

@@ -10,6 +10,8 @@ pub mod IterationLaws
 pub mod IteratorLaws
 pub mod KindLaws
 pub mod RunLaws
+mod ScopeCases
 mod ScopeExamples
 pub mod ScopeLaws
+mod ScopeParts
 pub mod StripLaws

@@ -1,22 +1,19 @@
 -- Laws of programs: what each expression and statement does, and how lists and loops are put together.
-use Rattle.std.proofs.Common.{◌≡◌, refl, ap, sym, ◌∙◌, ℕ, zero, suc, ◌+◌, List, [], ◌∷◌, ◌++◌, map, flat_map, length, Option, Bool, ℤ, arith, if◌then◌else◌, true, false}
+use Rattle.std.proofs.Common.{◌≡◌, refl, ap, sym, ◌∙◌, ℕ, suc, ◌+◌, List, [], ◌∷◌, ◌++◌, map, flat_map, length, Option, Bool, ℤ, arith}
 use Rattle.species_ast.specs.declared.tree.Kind.{Kind}
-use Rattle.species_ast.specs.declared.tree.Kind.TheVariants as kind
 use Rattle.species_ast.specs.declared.tree.Value.{Value}
-use Rattle.species_ast.specs.declared.tree.Value.TheVariants.{Int}
 use Rattle.species_ast.specs.declared.tree.Unary.{Unary}
 use Rattle.species_ast.specs.declared.tree.Binary.{Binary}
-use Rattle.species_ast.specs.declared.tree.Expr.{Expr, fold-Expr, fold-roll-Expr}
+use Rattle.species_ast.specs.declared.tree.Expr.{Expr}
 use Rattle.species_ast.specs.declared.tree.Expr.TheOpen.{Expr-F}
 use Rattle.species_ast.specs.declared.tree.Expr.TheVariants as e
-use Rattle.species_ast.specs.declared.tree.Stmt.{Stmt, fold-Stmt, fold-roll-Stmt}
-use Rattle.species_ast.specs.declared.tree.Stmt.TheOpen.{Stmt-F, Loop-F}
+use Rattle.species_ast.specs.declared.tree.Stmt.{Stmt}
+use Rattle.species_ast.specs.declared.tree.Stmt.TheOpen.{Loop-F}
 use Rattle.species_ast.specs.declared.tree.Stmt.TheVariants as s
-use Rattle.species_ast.specs.declared.tree.Loop.{Loop, fold-Loop, fold-roll-Loop, fold_out-Loop, out-Loop, roll-Loop}
-use Rattle.species_ast.specs.Operators.{kind_of, joint, converted, truth, is_true, unary_of, unary_kind, binary_of, binary_kind}
-use Rattle.species_ast.specs.Accesses.{Cells, Tree, Ret, Stop, Read, Write, Add, then_do, Outcome, Ended, Stopped, run, Access, accesses}
-use Rattle.species_ast.specs.Evaluation.{Frame, Context, Spot, Sense, sense, sense_at, array_kind, local_kind, iterator, local_of, with_local, known, answered, elements_in, target_of, element_at, site_at}
-use Rattle.species_ast.specs.Run.{Doing, Step, list_of, scope_of, turns, inside, outside, step, step_at, loop_at, loop_of, does_list, does_scope, assignment, adding, declaring, setting, branching, looping, plain, spot, locals_at, locals_of, locals_in}
+use Rattle.species_ast.specs.declared.tree.Loop.{Loop, out-Loop, roll-Loop}
+use Rattle.species_ast.specs.Accesses.{Cells, Tree, then_do, run, accesses}
+use Rattle.species_ast.specs.Evaluation.{Frame, Context, sense, sense_at}
+use Rattle.species_ast.specs.Run.{turns, inside, outside, step, step_at, loop_at, loop_of, does_list, does_scope, assignment, adding, declaring, setting, branching, looping, plain, spot, locals_at, locals_of, locals_in}
 use Rattle.species_ast.proofs.Folds.{fold_expr-Literal, fold_expr-Iter, fold_expr-Local, fold_expr-Elem, fold_expr-Unary, fold_expr-Binary, fold_expr-And, fold_expr-Or, fold_expr-Cond, fold_expr-Cast, fold_stmt-Assign, fold_stmt-AddTo, fold_stmt-Declare, fold_stmt-SetLocal, fold_stmt-If, fold_stmt-For, fold_stmt-Block, fold_loop, fold_loop-out}
 use Rattle.species_ast.proofs.AccessLaws.{go_on, accesses_on, run-then_do, accesses-then_do, then_do-assoc}
 

@@ -1,6 +1,6 @@
 -- What a piece of program does to the arrays, one access after another, as a tree that branches at what each read gives:
 -- its run over given arrays, the accesses of that run, and its actions for given answers.
-use Rattle.std.specs.Prelude.{ℕ, zero, suc, List, [], ◌∷◌, ◌++◌, ℤ, pos, ◌+ℤ◌, Bool, ◌&&◌, nat_eq, Option, Some, None, slice_get, option_and_then, unwrap_or}
+use Rattle.std.specs.Prelude.{ℕ, zero, suc, List, [], ◌∷◌, ℤ, pos, ◌+ℤ◌, Bool, ◌&&◌, nat_eq, Option, slice_get, option_and_then, unwrap_or}
 use Rattle.species_ast.specs.declared.tree.Value.{Value}
 use Rattle.species_ast.specs.declared.tree.Value.TheVariants.{Int}
 use Rattle.species_ast.specs.declared.trap.Trap.{Trap}

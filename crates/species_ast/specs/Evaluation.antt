@@ -1,5 +1,5 @@
 -- What expressions do: each is a tree of accesses, put together from the trees of its parts in the order of evaluation (C17 6.5).
-use Rattle.std.specs.Prelude.{ℕ, zero, suc, ◌+◌, ◌*◌, List, [], ◌∷◌, Bool, true, false, nat_lt, if◌then◌else◌, ℤ, pos, negsuc, Option, Some, None, option_map, option_and_then, unwrap_or, slice_get, slice_set, Ok, Err}
+use Rattle.std.specs.Prelude.{ℕ, suc, ◌+◌, ◌*◌, List, [], ◌∷◌, Bool, true, false, nat_lt, if◌then◌else◌, ℤ, pos, negsuc, Option, Some, None, option_map, option_and_then, unwrap_or, slice_get, slice_set, Ok, Err}
 use Rattle.species_ast.specs.declared.tree.Kind.{Kind}
 use Rattle.species_ast.specs.declared.tree.Kind.TheVariants as kind
 use Rattle.species_ast.specs.declared.tree.Value.{Value}

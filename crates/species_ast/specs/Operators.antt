@@ -1,6 +1,6 @@
 -- The values of C's integer kinds and C's operators on them, over unbounded whole numbers (C17 6.2.5, 6.3.1, 6.5).
 -- Only the definitions up to `joint` name the kinds: one more kind is one more line in each of them.
-use Rattle.std.specs.Prelude.{ℕ, ◌-◌, ◌^◌, ◌%◌, ◌<◌, ◌≤◌, Bool, true, false, not, nat_lt, if◌then◌else◌, ℤ, pos, negsuc, ◌+ℤ◌, ◌-ℤ◌, ◌*ℤ◌, neg_ℤ, unsigned_abs, int_lt, int_le, int_div, bit_and, bit_or, bit_xor, Result, Ok, Err, IsTrue}
+use Rattle.std.specs.Prelude.{ℕ, ◌-◌, ◌^◌, ◌%◌, Bool, true, false, not, nat_lt, if◌then◌else◌, ℤ, pos, negsuc, ◌+ℤ◌, ◌-ℤ◌, ◌*ℤ◌, neg_ℤ, unsigned_abs, int_lt, int_le, int_div, bit_and, bit_or, bit_xor, Result, Ok, Err, IsTrue}
 use Rattle.std.specs.Ordering.{int_eq}
 use Rattle.std.specs.Int.{int_shr}
 use Rattle.species_ast.specs.declared.tree.Kind.{Kind}

@@ -1,5 +1,5 @@
 -- Worked examples of the operators, by computation.
-use Rattle.std.proofs.Common.{◌≡◌, refl, ℕ, ◌^◌, ◌-◌, ◌+◌, ℤ, pos, negsuc, neg_ℤ, Ok, Err, List, [], ◌∷◌, Option, Some, None, false, true, map}
+use Rattle.std.proofs.Common.{◌≡◌, refl, ℕ, ◌^◌, ◌-◌, pos, neg_ℤ, Ok, Err, List, [], ◌∷◌, map}
 use Rattle.species_ast.specs.declared.tree.Kind.{Kind}
 use Rattle.species_ast.specs.declared.tree.Kind.TheVariants as kind
 use Rattle.species_ast.specs.declared.tree.Value.{Value}
@@ -111,3 +111,87 @@ conversions : map (λ (c : Kind × Value). converted c.0 c.1) (
     (kind.Int, unsigned 2147483647) ∷ (kind.Unsigned, least) ∷ (kind.Int, minus 9) ∷ [])
     ≡ unsigned 4294967295 ∷ unsigned 7 ∷ minus 1 ∷ least ∷ greatest ∷ unsigned 2147483648 ∷ minus 9 ∷ []
 conversions = refl
+
+-- counts of 31 and 32, of either kind; the values at the ends of the kinds
+counts : answers (
+    (Shl, unsigned 1, int 31) ∷ (Shl, unsigned 1, int 32) ∷ (Shl, unsigned 4294967295, unsigned 31) ∷ (Shl, unsigned 1, unsigned 4294967295) ∷
+    (Shl, int 1, unsigned 31) ∷ (Shl, int 0, int 32) ∷ (Shl, int 1073741823, int 1) ∷ (Shl, int 1073741824, int 1) ∷
+    (Shr, greatest, int 30) ∷ (Shr, greatest, int 31) ∷ (Shr, greatest, int 32) ∷ (Shr, minus 1, int 31) ∷ (Shr, minus 1, int 32) ∷
+    (Shr, least, int 30) ∷ (Shr, unsigned 2147483648, int 31) ∷ (Shr, unsigned 8, minus 1) ∷ [])
+    ≡ Ok (unsigned 2147483648) ∷ Err BadShift ∷ Ok (unsigned 2147483648) ∷ Err BadShift ∷
+    Err Overflow ∷ Err BadShift ∷ Ok (int 2147483646) ∷ Err Overflow ∷
+    Ok (int 1) ∷ Ok (int 0) ∷ Err BadShift ∷ Ok (minus 1) ∷ Err BadShift ∷
+    Ok (minus 2) ∷ Ok (unsigned 1) ∷ Err BadShift ∷ []
+counts = refl
+
+-- quotients and rests at the ends of Int: -2147483648 is -1 times 2147483647, less 1
+quotients_at_ends : answers (
+    (Div, minus 1, int 2) ∷ (Rem, minus 1, int 2) ∷ (Div, minus 6, int 3) ∷ (Rem, minus 6, int 3) ∷
+    (Div, least, greatest) ∷ (Rem, least, greatest) ∷ (Div, greatest, least) ∷ (Rem, greatest, least) ∷
+    (Div, least, least) ∷ (Rem, least, least) ∷ (Div, int 0, minus 5) ∷ (Rem, minus 5, int 0) ∷ [])
+    ≡ Ok (int 0) ∷ Ok (minus 1) ∷ Ok (minus 2) ∷ Ok (int 0) ∷
+    Ok (minus 1) ∷ Ok (minus 1) ∷ Ok (int 0) ∷ Ok greatest ∷
+    Ok (int 1) ∷ Ok (int 0) ∷ Ok (int 0) ∷ Err DivZero ∷ []
+quotients_at_ends = refl
+
+-- the least Int by -1 has no quotient, but as an unsigned number it has one, by -1 as 4294967295
+least_by_minus_one : answers (
+    (Div, least, minus 1) ∷ (Rem, least, minus 1) ∷ (Div, least, unsigned 4294967295) ∷ (Rem, least, unsigned 4294967295) ∷
+    (Div, unsigned 2147483648, minus 1) ∷ (Div, unsigned 4294967295, minus 1) ∷ (Rem, unsigned 4294967295, int 10) ∷ [])
+    ≡ Err Overflow ∷ Err Overflow ∷ Ok (unsigned 0) ∷ Ok (unsigned 2147483648) ∷
+    Ok (unsigned 0) ∷ Ok (unsigned 1) ∷ Ok (unsigned 5) ∷ []
+least_by_minus_one = refl
+
+-- more of Int at its ends: 46341 * 46341 is 2147488281
+exact_at_ends : answers (
+    (Add, least, minus 1) ∷ (Add, least, greatest) ∷ (Sub, int 0, least) ∷ (Sub, minus 1, least) ∷ (Sub, greatest, minus 1) ∷
+    (Mul, int 46340, int 46340) ∷ (Mul, int 46341, int 46341) ∷ (Mul, minus 46341, int 46341) ∷ (Mul, minus 1, greatest) ∷ [])
+    ≡ Err Overflow ∷ Ok (minus 1) ∷ Err Overflow ∷ Ok greatest ∷ Err Overflow ∷
+    Ok (int 2147395600) ∷ Err Overflow ∷ Err Overflow ∷ Ok (minus 2147483647) ∷ []
+exact_at_ends = refl
+
+-- more of Unsigned past its end: 65537 * 65537 is 4294967296 and 131073
+wraps : answers (
+    (Add, unsigned 2147483648, unsigned 2147483648) ∷ (Add, unsigned 4294967295, unsigned 4294967295) ∷ (Add, minus 1, unsigned 1) ∷
+    (Add, least, unsigned 0) ∷ (Sub, unsigned 0, unsigned 4294967295) ∷ (Sub, unsigned 3, int 5) ∷ (Sub, unsigned 2, minus 1) ∷
+    (Mul, unsigned 2147483648, int 3) ∷ (Mul, unsigned 65537, unsigned 65537) ∷ (Mul, unsigned 65537, unsigned 65535) ∷ [])
+    ≡ Ok (unsigned 0) ∷ Ok (unsigned 4294967294) ∷ Ok (unsigned 0) ∷
+    Ok (unsigned 2147483648) ∷ Ok (unsigned 1) ∷ Ok (unsigned 4294967294) ∷ Ok (unsigned 3) ∷
+    Ok (unsigned 2147483648) ∷ Ok (unsigned 131073) ∷ Ok (unsigned 4294967295) ∷ []
+wraps = refl
+
+-- a negative Int is above all small unsigned numbers; the numbers of Int keep their order among themselves
+mixed_comparisons : answers (
+    (Gt, minus 1, unsigned 0) ∷ (Lt, minus 2, unsigned 4294967295) ∷ (Ge, least, unsigned 2147483648) ∷ (Gt, least, unsigned 2147483648) ∷
+    (Lt, greatest, unsigned 2147483648) ∷ (Le, unsigned 0, minus 1) ∷ (Eq, unsigned 2147483648, least) ∷ (Ne, unsigned 1, minus 1) ∷
+    (Lt, least, greatest) ∷ (Ge, minus 1, int 0) ∷ (Le, minus 2, minus 1) ∷ (Gt, unsigned 4294967295, unsigned 4294967294) ∷ [])
+    ≡ Ok (int 1) ∷ Ok (int 1) ∷ Ok (int 1) ∷ Ok (int 0) ∷
+    Ok (int 1) ∷ Ok (int 1) ∷ Ok (int 1) ∷ Ok (int 1) ∷
+    Ok (int 1) ∷ Ok (int 0) ∷ Ok (int 1) ∷ Ok (int 1) ∷ []
+mixed_comparisons = refl
+
+-- bits of the numbers at the ends of the kinds
+bits_at_ends : answers (
+    (BitAnd, least, greatest) ∷ (BitOr, least, greatest) ∷ (BitXor, minus 1, minus 1) ∷ (BitXor, least, minus 1) ∷
+    (BitAnd, least, unsigned 4294967295) ∷ (BitXor, unsigned 4294967295, unsigned 2147483648) ∷ [])
+    ≡ Ok (int 0) ∷ Ok (minus 1) ∷ Ok (int 0) ∷ Ok greatest ∷ Ok (unsigned 2147483648) ∷ Ok (unsigned 2147483647) ∷ []
+bits_at_ends = refl
+
+-- `-`, `~` and `!` at the ends of the kinds; `!` gives an Int for both
+unary_at_ends : map (λ (c : Unary × Value). unary_of c.0 c.1) (
+    (Neg, greatest) ∷ (Neg, unsigned 2147483648) ∷ (Neg, unsigned 4294967295) ∷
+    (Not, least) ∷ (Not, greatest) ∷ (Not, minus 1) ∷ (Not, unsigned 0) ∷ (Not, unsigned 4294967295) ∷ (Not, unsigned 2147483648) ∷
+    (LogNot, least) ∷ (LogNot, int 1) ∷ (LogNot, unsigned 4294967295) ∷ [])
+    ≡ Ok (minus 2147483647) ∷ Ok (unsigned 2147483648) ∷ Ok (unsigned 1) ∷
+    Ok greatest ∷ Ok least ∷ Ok (int 0) ∷ Ok (unsigned 4294967295) ∷ Ok (unsigned 0) ∷ Ok (unsigned 2147483647) ∷
+    Ok (int 0) ∷ Ok (int 0) ∷ Ok (int 0) ∷ []
+unary_at_ends = refl
+
+-- negative numbers to Unsigned, and unsigned numbers past Int to Int
+conversions_at_ends : map (λ (c : Kind × Value). converted c.0 c.1) (
+    (kind.Unsigned, minus 2) ∷ (kind.Unsigned, minus 2147483647) ∷ (kind.Unsigned, greatest) ∷
+    (kind.Int, unsigned 4294967294) ∷ (kind.Int, unsigned 2147483649) ∷ (kind.Int, unsigned 0) ∷
+    (kind.Unsigned, unsigned 4294967295) ∷ (kind.Int, least) ∷ [])
+    ≡ unsigned 4294967294 ∷ unsigned 2147483649 ∷ unsigned 2147483647 ∷ minus 2 ∷ minus 2147483647 ∷ int 0 ∷
+    unsigned 4294967295 ∷ least ∷ []
+conversions_at_ends = refl

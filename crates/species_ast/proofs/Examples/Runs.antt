@@ -1,5 +1,5 @@
 -- Worked examples of expressions and of programs, by computation.
-use Rattle.std.proofs.Common.{◌≡◌, refl, ap, ℕ, ℤ, pos, negsuc, neg_ℤ, Ok, Err, List, [], ◌∷◌, take, Option, Some, None, Bool, false, true, map}
+use Rattle.std.proofs.Common.{◌≡◌, refl, ℕ, ℤ, pos, negsuc, neg_ℤ, List, [], ◌∷◌, take, Some, None, false, true, map}
 use Rattle.species_ast.specs.declared.tree.Kind.TheVariants as kind
 use Rattle.species_ast.specs.declared.tree.Value.{Value}
 use Rattle.species_ast.specs.declared.tree.Value.TheVariants.{Int, Unsigned}
@@ -13,8 +13,8 @@ use Rattle.species_ast.specs.declared.tree.Stmt.{Stmt}
 use Rattle.species_ast.specs.declared.tree.Stmt.TheVariants as s
 use Rattle.species_ast.specs.declared.tree.Loop.{roll-Loop}
 use Rattle.species_ast.specs.declared.trap.Trap.TheVariants as trap
-use Rattle.species_ast.specs.Accesses.{Cells, Direction, Reads, Writes, Adds, Tree, Ret, Stop, Trapped, Outcome, Ended, Stopped, run, Access, accesses, acts, Action, ReadOf, WriteOf, AddOf, Done, Fault}
-use Rattle.species_ast.specs.Evaluation.{Context, Frame, Spot, Sense, sense}
+use Rattle.species_ast.specs.Accesses.{Cells, Direction, Reads, Writes, Adds, Tree, Ret, Trapped, Outcome, Ended, Stopped, run, Access, accesses, ReadOf, WriteOf, AddOf, Done, Fault}
+use Rattle.species_ast.specs.Evaluation.{Context, Frame, Sense, sense}
 use Rattle.species_ast.specs.Run.{does_list, actions}
 use Rattle.species_ast.proofs.RunLaws.{folds, locals}
 

@@ -10,7 +10,7 @@ use Rattle.species_ast.specs.declared.raw.RawUnary.TheVariants as raw_unary
 use Rattle.species_ast.specs.declared.raw.RawExpr.{RawExpr, fold-RawExpr}
 use Rattle.species_ast.specs.declared.raw.RawTarget.{RawTarget, fold-RawTarget}
 use Rattle.species_ast.specs.declared.raw.RawTerm.TheOpen.{RawTerm-F, RawExpr-F, RawTarget-F}
-use Rattle.species_ast.specs.Scope.Meanings.{Meaning, Local, Scope, meaning_of, local_number, Taken, Occurrence, occurrence}
+use Rattle.species_ast.specs.Scope.Meanings.{Meaning, Scope, meaning_of, local_number, Taken, Occurrence, occurrence}
 
 -- an expression of a unit, and the names that stand in it
 pub record ExprReading : Type 0 where
