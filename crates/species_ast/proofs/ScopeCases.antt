@@ -1,5 +1,5 @@
 -- Cases at the edges of the rules: other names in the header of a loop, several faults at one loop, how many elements an array has,
--- and the forms of a header. Each answer was worked out from the text before it was computed.
+-- and the forms of a header.
 use Rattle.std.proofs.Common.{refl, ℕ, ◌+◌, List, [], ◌∷◌, Some, None, true, false, ℤ, pos, negsuc, neg_ℤ, Result}
 use Rattle.std.specs.Prelude.{codes}
 use Prim.Native.String.{String}
@@ -257,7 +257,7 @@ sum_while_less = answer (headed test.Lt (set_add 39 "i" "i" (num 47 3))) _ (simp
 difference_while_greater : answers (headed test.Gt (set_sub 39 "i" "i" (num 47 3))) (goes_by test.Gt (neg_ℤ (pos 3)))
 difference_while_greater = answer (headed test.Gt (set_sub 39 "i" "i" (num 47 3))) _ (simp folded refl)
 
--- the sign of the constant counts, and not the operator
+-- a constant below 0 turns the direction
 -- `i > 4; i += -3`
 add_negative : answers (headed test.Gt (add_by 39 "i" (neg 44 (num 45 3)))) (goes_by test.Gt (neg_ℤ (pos 3)))
 add_negative = answer (headed test.Gt (add_by 39 "i" (neg 44 (num 45 3)))) _ (simp folded refl)
