@@ -214,7 +214,7 @@ size_past_forms = answer (with_array (bin 6 binary.Add (num 6 2147483647) (num 1
 
 -- ---- the forms of a header
 
--- `void k(void) { for (int i = 0; i < 4; i++) ; }` with this test and step
+-- `void k(void) { for (int i = 0; i < 4; i++) ; }` with this test and step; places behind the test, which no answer has, are made up
 abbrev headed : Test → KnownStep → KnownProgram
 headed c by = program [] k_at_5 (loop 15 (record { parallel = None; typed = true; iter = at 24 "i"; start = num 28 0; tested = at 31 "i"; test = c; limit = num 36 4; step = by; body = empty 55 }) ∷ [])
 
