@@ -1,9 +1,9 @@
 -- The counters of a loop: division gives the first and the last.
-use Rattle.std.proofs.Common.{◌≡◌, ℕ, suc, ◌+◌, ◌*◌, ◌/◌, ◌<◌, ◌≤◌, ℤ, pos, negsuc, ◌+ℤ◌, ◌-ℤ◌, ◌*ℤ◌, ◌≤ℤ◌, ◌<ℤ◌, arith, subst, sym, ap, refl, ◌∙◌, Some, IsSome, unwrap_or, is_some, if◌then◌else◌, ◌↔◌}
+use Rattle.std.proofs.Common.{◌≡◌, ℕ, ◌+◌, ◌*◌, ◌/◌, ◌<◌, ◌≤◌, ℤ, pos, negsuc, ◌+ℤ◌, ◌-ℤ◌, ◌*ℤ◌, ◌≤ℤ◌, ◌<ℤ◌, arith, ap, refl, Some, ◌↔◌}
 use Rattle.std.proofs.lemmas.Int.{ints}
 use Rattle.std.proofs.Math.IntN.{neg_ℤ, pos-*ℤ-pos}
 use Rattle.std.proofs.Math.Nat.{le-div_iff_mul-le, div-lt_iff_lt-mul, mul_comm}
-use Rattle.species_integers.proofs.Products.{mul_up, mul_zero, neg_mul}
+use Rattle.species_integers.proofs.Products.{neg_mul}
 use Rattle.species_linear.specs.declared.loops.LoopRange.{LoopRange}
 use Rattle.species_region.specs.Coordinate.{iterator_at, IsCoordinate}
 

@@ -1,5 +1,5 @@
 -- The region as one fact for each level: the entries of the direction vector, <=> `IsInRegion`.
-use Rattle.std.proofs.Common.{◌≡◌, ℕ, zero, suc, ◌+◌, ◌<◌, ◌≤◌, ℤ, pos, ◌≤ℤ◌, ◌<ℤ◌, arith, refl, subst, sym, List, [], ◌∷◌, length, Bool, true, false, nat_lt, nat_eq, if◌then◌else◌, IsTrue, ◌↔◌, ◌⊎◌, inl, inr}
+use Rattle.std.proofs.Common.{◌≡◌, ℕ, zero, suc, ◌+◌, ◌<◌, ◌≤◌, ℤ, pos, arith, refl, subst, List, [], ◌∷◌, length, Bool, true, false, nat_lt, nat_eq, if◌then◌else◌, IsTrue, ◌↔◌, ◌⊎◌, inl, inr}
 use Rattle.std.proofs.Math.Bool.{not}
 use Rattle.std.proofs.lemmas.Int.{ints}
 use Rattle.std.proofs.lemmas.Bool.{eq-eqb}
@@ -89,12 +89,12 @@ related_in_region at ps qs x y k loops region = elim (before_here_after k (level
 pub region_allowed : (at : Direction) (ps qs : List LoopRange) (x y : Point) → ShareLoops at ps qs → IsInRegion at ps qs x y →
     (k : ℕ) → Allows (loop_pair_at at ps qs k) (clipped ps x k, clipped qs y k)
 region_allowed at ps qs x y loops region k =
-    (clipped_coordinate ps x k region.source, clipped_coordinate qs y k region.sink, related_in_region at ps qs x y k loops region)
+    (clipped_coordinate ps x k region.first, clipped_coordinate qs y k region.second, related_in_region at ps qs x y k loops region)
 
 pub allowed_region : (at : Direction) (ps qs : List LoopRange) (x y : Point) → ((k : ℕ) → Allows (loop_pair_at at ps qs k) (x k, y k)) → IsInRegion at ps qs x y
 allowed_region at ps qs x y each = record {
-  source = λ k h. (each k).0;
-  sink = λ k h. (each k).1;
+  first = λ k h. (each k).0;
+  second = λ k h. (each k).1;
   agree = λ k h. subst (λ (e : Entry). Relates e (x k) (y k)) (entry_before at k h) (each k).2;
   differ = relates_differ at.less (x (level_of at)) (y (level_of at))
       (subst (λ (e : Entry). Relates e (x (level_of at)) (y (level_of at))) (entry_here at) (each (level_of at)).2);

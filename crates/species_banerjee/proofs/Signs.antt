@@ -1,5 +1,5 @@
 -- The extremes over all levels decide the sign over the region.
-use Rattle.std.proofs.Common.{◌≡◌, ℕ, zero, suc, ◌+◌, ◌*◌, ◌^◌, ◌<◌, ◌≤◌, ℤ, pos, ◌+ℤ◌, ◌-ℤ◌, ◌*ℤ◌, ◌≤ℤ◌, ◌<ℤ◌, arith, refl, subst, add-one, List, length, true, false, nat_lt, if◌then◌else◌, ◌⊎◌, inl, inr, ◌↔◌}
+use Rattle.std.proofs.Common.{◌≡◌, ℕ, zero, suc, ◌+◌, ◌*◌, ◌^◌, ◌<◌, ◌≤◌, ℤ, pos, ◌+ℤ◌, ◌-ℤ◌, ◌*ℤ◌, ◌<ℤ◌, arith, refl, subst, add-one, List, length, true, false, nat_lt, if◌then◌else◌, ◌⊎◌, inl, inr, ◌↔◌}
 use Rattle.std.specs.Int.RustNames.{unsigned_abs}
 use Rattle.std.proofs.lemmas.Int.{ints}
 use Rattle.std.proofs.lemmas.Bool.Decides.{nat_tests}
@@ -9,11 +9,11 @@ use Rattle.species_linear.specs.declared.loops.LoopRange.{LoopRange}
 use Rattle.species_linear.specs.declared.loops.Direction.{Direction}
 use Rattle.species_linear.specs.Rising.{IsRising}
 use Rattle.species_linear.specs.Point.{Point}
-use Rattle.species_linear.specs.Value.{form_at, coefficient_at, NamesOnly}
-use Rattle.species_linear.specs.Box.{range_at, IsLeastOver, IsGreatestOver}
+use Rattle.species_linear.specs.Value.{coefficient_at, NamesOnly}
+use Rattle.species_linear.specs.Box.{IsLeastOver, IsGreatestOver}
 use Rattle.species_linear.proofs.Parts.{total_of, IsAllowedBelow, total_same, least_next, greatest_next}
 use Rattle.species_linear.proofs.Levels.{difference_by_level}
-use Rattle.species_region.specs.Coordinate.{iterator_at, iterators_at}
+use Rattle.species_region.specs.Coordinate.{iterators_at}
 use Rattle.species_region.specs.Region.{IsInRegion, difference_at, NeverMeet}
 use Rattle.species_region.specs.Asked.{ShareLoops}
 use Rattle.species_banerjee.specs.declared.pairs.LoopPair.{LoopPair}

@@ -1,5 +1,5 @@
 -- Lists of known length.
-use Rattle.std.proofs.Common.{◌≡◌, ◌∙◌, ◌++◌, append_assoc, ap, sym, arith, ℕ, ◌≤◌, ◌<◌, List, [], ◌∷◌, length, get_or}
+use Rattle.std.proofs.Common.{◌≡◌, ◌∙◌, ◌++◌, append_assoc, ap, sym, arith, ℕ, ◌≤◌, List, [], ◌∷◌, length, get_or}
 
 pub two_items : {X : Type 0} (xs : List X) (x : X) → 2 ≤ length xs → length xs ≤ 2 → x ≡ get_or xs 1 x → xs ≡ get_or xs 0 x ∷ x ∷ []
 two_items [] x h k e = absurd (omega (arith, h))

@@ -1,6 +1,6 @@
 -- Looking names up in a table of references, and in the list of what they point to.
-use Rattle.std.proofs.Common.{◌≡◌, ◌∙◌, ap, sym, refl, ℕ, ◌+◌, Bool, true, false, nat_eq, nat_lt, List, [], ◌∷◌, length, map, Option, Some, None, arith}
-use Rattle.std.specs.Prelude.{position, bytes_eq, not, ◌||◌, if◌then◌else◌}
+use Rattle.std.proofs.Common.{◌≡◌, ◌∙◌, ap, refl, ◌+◌, Bool, nat_lt, List, [], ◌∷◌, length, map, Some, None, arith}
+use Rattle.std.specs.Prelude.{position, not, ◌||◌, if◌then◌else◌}
 use Rattle.std.specs.List.{list_any, position_or_len}
 
 pub any_mapped : {X Y : Type 0} (f : X → Y) (p : Y → Bool) (xs : List X) → list_any p (map f xs) ≡ list_any (λ x. p (f x)) xs

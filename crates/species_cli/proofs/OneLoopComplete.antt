@@ -1,7 +1,7 @@
 -- The text of a one-loop program is read as that program.
-use Rattle.std.proofs.Common.{◌≡◌, ◌≢◌, ◌∙◌, ap, sym, refl, subst, ℕ, zero, suc, ◌+◌, ◌*◌, ◌-◌, ◌<◌, ◌≤◌, ◌^◌, Bool, true, false, nat_eq, nat_lt, List, [], ◌∷◌, ◌++◌, length, take, drop, get_or, map, Option, Some, None, arith, rules, append_assoc, append-nil, length-append}
+use Rattle.std.proofs.Common.{◌≡◌, ◌≢◌, ◌∙◌, ap, sym, refl, subst, ℕ, zero, suc, ◌+◌, ◌*◌, ◌-◌, ◌<◌, ◌≤◌, ◌^◌, Bool, true, false, nat_eq, nat_lt, List, [], ◌∷◌, ◌++◌, length, drop, get_or, map, Some, None, arith, rules, append_assoc, append-nil, length-append}
 use Rattle.std.specs.Prelude.{not, ◌&&◌, ◌||◌, nat_le, if◌then◌else◌, take_while, position, bytes_eq, codes, decimal, All, AllPairs, IsTrue}
-use Rattle.std.specs.List.{list_any, list_all, flat_map, position_or_len}
+use Rattle.std.specs.List.{list_any, list_all, flat_map}
 use Rattle.std.proofs.lemmas.Bool.{leb-true, le-leb, lt-leb, lt-ltb, ne_eqb, both_ways}
 use Rattle.std.proofs.lemmas.Slice.Eq.{bytes_eq-Decides}
 use Rattle.std.proofs.lemmas.List.{length-map}
@@ -12,15 +12,14 @@ use Rattle.std.proofs.lemmas.Str.Parse.{IsNumeralModel, numerals_by_fold}
 use Rattle.std.proofs.Math.Seq.{drop-append_seam, get_or-append_seam}
 use Rattle.std.proofs.lemmas.List.{get_or_append_left}
 use Rattle.species_ast.specs.Names.{is_letter, is_digit, is_word, is_keyword, is_name}
-use Rattle.species_ast.specs.declared.tree.Array.{Array}
 use Rattle.species_ast.specs.declared.tree.Binary.TheVariants as binary
 use Rattle.species_ast.specs.declared.tree.Expr.{Expr}
 use Rattle.species_ast.specs.declared.tree.Expr.TheVariants as expr
 use Rattle.species_ast.specs.declared.tree.Stmt.{Stmt}
 use Rattle.species_ast.specs.declared.tree.Stmt.TheVariants as stmt
-use Rattle.species_reference.specs.OneLoop.{Shift, Element, Term, Statement, Declaration, OneLoop, literal, subscript, element_expr, term_expr, sum_expr, statement_of, array_of, unit_of, term_elements, terms_elements, element_count, most_size, most_number, HasSmallShift, IsLawfulElement, IsLawfulTerm, IsLawfulStatement, HasLawfulNumbers}
-use Rattle.species_cli.specs.OneLoopText.{shift_text, array_name, element_text, term_text, more_text, statement_text, declaration_text, function_text, header_text, front_text, text_of, names_of, HasLawfulNames, ArePlaced, HasItsPlaces, IsOneLoopText}
-use Rattle.species_cli.specs.OneLoopReading.{◌>>=◌, after, name_of, name_at, number_on, number_of, number_at, sign_of, sign_at, shift_of, shift_at, subscript_at, element_of, element_at, read_of, begins_with_digit, scaled_of, scaled_at, term_at, sum_of, sum_at, statement_at, body_of, body_at, declaration_at, names_in, declared_of, arrays_of, arrays_at, all_arrays_at, function_at, start_at, limit_at, ended, rest_at, are_new, loop_from, unit_from, loop_at, unit_at}
+use Rattle.species_reference.specs.OneLoop.{Shift, Element, Term, Statement, Declaration, OneLoop, literal, subscript, term_expr, sum_expr, statement_of, array_of, unit_of, term_elements, terms_elements, element_count, most_size, most_number, HasSmallShift, IsLawfulElement, IsLawfulTerm, IsLawfulStatement, HasLawfulNumbers}
+use Rattle.species_cli.specs.OneLoopText.{shift_text, array_name, element_text, term_text, more_text, statement_text, declaration_text, function_text, header_text, front_text, names_of, HasLawfulNames, ArePlaced, IsOneLoopText}
+use Rattle.species_cli.specs.OneLoopReading.{◌>>=◌, after, name_of, name_at, number_on, number_of, number_at, sign_at, shift_at, subscript_at, element_of, element_at, read_of, begins_with_digit, scaled_of, scaled_at, term_at, sum_at, statement_at, body_at, declaration_at, names_in, declared_of, arrays_at, all_arrays_at, function_at, start_at, limit_at, ended, rest_at, are_new, loop_from, unit_from, loop_at, unit_at}
 use Rattle.species_cli.proofs.OneLoopWords.{after_full}
 use Rattle.species_cli.proofs.OneLoopLoops.{arrays_stop}
 use Rattle.species_cli.proofs.OneLoopSound.{gave, at, named, counted, weighed, sized, and_true, array_name_is, names_of_arrays, arrays_more, statement_regroup, declaration_regroup, front_regroup, header_regroup, IsDeclared}

@@ -1,5 +1,5 @@
 -- What the reader's answer says of the text.
-use Rattle.std.proofs.Common.{◌≡◌, ◌∙◌, sym, subst, List, ℕ, Result, Ok, Err, Some, None}
+use Rattle.std.proofs.Common.{◌≡◌, ◌∙◌, sym, subst, List, ℕ, Result, Ok, Err, None}
 use Rattle.std.specs.Prelude.{IfOk}
 use Rattle.species_ast.specs.declared.tree.Unit as tree
 use Rattle.species_reference.specs.OneLoop.{OneLoop, unit_of}

@@ -1,6 +1,6 @@
 -- What the reader of one-loop programs reads is the text of what it gives.
-use Rattle.std.proofs.Common.{◌≡◌, ◌≢◌, ◌∙◌, ap, sym, refl, subst, ℕ, zero, suc, ◌+◌, ◌*◌, ◌-◌, ◌<◌, ◌≤◌, ◌^◌, Bool, true, false, nat_eq, List, [], ◌∷◌, ◌++◌, length, take, drop, get_or, map, Option, Some, None, arith, rules, inl, inr, append_assoc, append-nil, length-append, length-drop}
-use Rattle.std.specs.Prelude.{◌⊎◌, not, ◌&&◌, nat_le, if◌then◌else◌, take_while, position, bytes_eq, codes, decimal, All, AllPairs, IsTrue}
+use Rattle.std.proofs.Common.{◌≡◌, ◌≢◌, ◌∙◌, ap, sym, refl, subst, ℕ, zero, suc, ◌+◌, ◌*◌, ◌-◌, ◌<◌, ◌≤◌, Bool, true, false, List, [], ◌∷◌, ◌++◌, length, drop, get_or, map, Option, Some, None, arith, rules, append_assoc, append-nil, length-append}
+use Rattle.std.specs.Prelude.{not, ◌&&◌, nat_le, if◌then◌else◌, take_while, position, bytes_eq, codes, decimal, All, AllPairs, IsTrue}
 use Rattle.std.specs.List.{list_any, flat_map}
 use Rattle.std.proofs.lemmas.Bool.{leb-true, not-true, both_ways}
 use Rattle.std.proofs.lemmas.Slice.Eq.{bytes_eq-Decides}
@@ -12,16 +12,15 @@ use Rattle.std.proofs.lemmas.List.Folds.{list_any_at}
 use Rattle.std.proofs.lemmas.Grind.{flat_map-append}
 use Rattle.species_ast.specs.Names.{is_digit, is_word, is_name}
 use Rattle.species_ast.specs.declared.tree.Array.{Array}
-use Rattle.species_ast.specs.declared.tree.Binary.{Binary}
 use Rattle.species_ast.specs.declared.tree.Binary.TheVariants as binary
 use Rattle.species_ast.specs.declared.tree.Expr.{Expr}
 use Rattle.species_ast.specs.declared.tree.Expr.TheVariants as expr
 use Rattle.species_ast.specs.declared.tree.Stmt.{Stmt}
 use Rattle.species_ast.specs.declared.tree.Stmt.TheVariants as stmt
 use Rattle.species_ast.specs.declared.tree.Unit as tree
-use Rattle.species_reference.specs.OneLoop.{Shift, Element, Term, Statement, Declaration, OneLoop, literal, subscript, element_expr, term_expr, sum_expr, statement_of, array_of, unit_of, term_elements, terms_elements, element_count, most_size, most_number, HasSmallShift, IsLawfulElement, IsLawfulTerm, IsLawfulStatement, HasLawfulNumbers}
-use Rattle.species_cli.specs.OneLoopText.{shift_text, array_name, element_text, term_text, more_text, statement_text, declaration_text, function_text, header_text, front_text, text_of, names_of, HasLawfulNames, ArePlaced, HasItsPlaces, IsOneLoopText}
-use Rattle.species_cli.specs.OneLoopReading.{◌>>=◌, after, name_of, name_at, number_on, number_of, number_at, sign_of, sign_at, shift_of, shift_at, subscript_at, element_of, element_at, read_of, begins_with_digit, scaled_of, scaled_at, term_at, sum_of, sum_at, statement_at, body_of, body_at, declaration_at, names_in, declared_of, arrays_of, arrays_at, all_arrays_at, function_at, start_at, limit_at, ended, rest_at, are_new, loop_from, unit_from, loop_at, unit_at}
+use Rattle.species_reference.specs.OneLoop.{Shift, Element, Term, Statement, Declaration, OneLoop, literal, subscript, term_expr, sum_expr, statement_of, array_of, unit_of, term_elements, terms_elements, element_count, most_size, most_number, HasSmallShift, IsLawfulElement, IsLawfulTerm, IsLawfulStatement, HasLawfulNumbers}
+use Rattle.species_cli.specs.OneLoopText.{shift_text, array_name, element_text, term_text, more_text, statement_text, declaration_text, HasLawfulNames, ArePlaced, HasItsPlaces, IsOneLoopText}
+use Rattle.species_cli.specs.OneLoopReading.{◌>>=◌, after, name_at, number_on, number_at, sign_of, sign_at, shift_of, shift_at, subscript_at, element_at, read_of, begins_with_digit, scaled_of, scaled_at, term_at, sum_of, sum_at, statement_at, body_of, body_at, declaration_at, names_in, declared_of, arrays_of, arrays_at, all_arrays_at, function_at, start_at, limit_at, ended, rest_at, are_new, loop_from, unit_from, loop_at, unit_at}
 use Rattle.species_cli.proofs.OneLoopWords.{after_took, run_front}
 
 -- ---- what an answer says

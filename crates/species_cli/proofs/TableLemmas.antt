@@ -1,16 +1,15 @@
 -- The table of a one-loop program.
-use Rattle.std.proofs.Common.{◌≡◌, ◌∙◌, ap, sym, refl, arith, ℕ, zero, suc, ◌<◌, ℤ, pos, ◌-ℤ◌, true, List, [], ◌∷◌, length, get_or}
+use Rattle.std.proofs.Common.{◌≡◌, ◌∙◌, ap, sym, arith, ℕ, zero, suc, ◌<◌, ℤ, true, List, [], ◌∷◌, length, get_or}
 use Rattle.std.specs.List.{flat_map}
 use Rattle.species_ast.specs.declared.tree.Unit as unit
 use Rattle.species_ast.specs.declared.tree.Array.{Array}
-use Rattle.species_ast.specs.declared.tree.Expr.{Expr}
 use Rattle.species_ast.specs.declared.tree.Expr.TheVariants as expr
 use Rattle.species_ast.specs.declared.tree.Stmt.{Stmt, out-Stmt}
 use Rattle.species_ast.specs.declared.tree.Stmt.TheVariants as stmt
 use Rattle.species_ast.specs.declared.tree.Stmt.TheOpen.{Stmt-F, Loop-F}
 use Rattle.species_ast.specs.declared.tree.Loop.{Loop, out-Loop, out-roll-Loop}
 use Rattle.species_reference.specs.declared.FirstReference.{FirstReference}
-use Rattle.species_reference.specs.OneLoop.{OneLoop, HasLawfulNumbers, literal, layer_of, loop_of, unit_of}
+use Rattle.species_reference.specs.OneLoop.{OneLoop, HasLawfulNumbers, layer_of, loop_of, unit_of}
 use Rattle.species_reference.specs.Form.{IsOneLoop}
 use Rattle.species_reference.specs.Shape.{is_literal, is_literal_at}
 use Rattle.species_cli.specs.Table.{line_at}

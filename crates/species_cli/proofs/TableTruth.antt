@@ -1,15 +1,14 @@
 -- Each line of the table of a one-loop program is true.
-use Rattle.std.proofs.Common.{◌≡◌, ◌∙◌, ap, sym, refl, arith, subst, ℕ, zero, suc, ◌+◌, ◌<◌, ℤ, pos, negsuc, ◌+ℤ◌, ◌-ℤ◌, ◌*ℤ◌, ◌≤ℤ◌, ◌<ℤ◌, List, [], ◌∷◌, ◌++◌, map, length, slice_get, Some}
+use Rattle.std.proofs.Common.{◌≡◌, ◌∙◌, ap, sym, refl, arith, subst, ℕ, zero, suc, ◌+◌, ℤ, pos, ◌+ℤ◌, ◌-ℤ◌, ◌*ℤ◌, ◌≤ℤ◌, ◌<ℤ◌, List, [], ◌∷◌, ◌++◌, map, length, slice_get, Some}
 use Rattle.std.specs.List.{flat_map}
-use Rattle.std.specs.Prelude.{All}
 use Rattle.std.proofs.lemmas.Int.{ints}
 use Rattle.species_ast.specs.declared.tree.Binary.TheVariants as binary
-use Rattle.species_ast.specs.declared.tree.Expr.{Expr, fold-Expr, fold-roll-Expr}
+use Rattle.species_ast.specs.declared.tree.Expr.{Expr, fold-roll-Expr}
 use Rattle.species_ast.specs.declared.tree.Expr.TheOpen.{Expr-F}
 use Rattle.species_ast.specs.declared.tree.Expr.TheVariants as expr
 use Rattle.species_ast.specs.declared.tree.Loop.{Loop, out-Loop}
 use Rattle.species_reference.specs.declared.FirstReference.{FirstReference}
-use Rattle.species_reference.specs.OneLoop.{Shift, Element, Term, Statement, OneLoop, literal, subscript, element_expr, term_expr, sum_expr, statement_of, layer_of, loop_of}
+use Rattle.species_reference.specs.OneLoop.{Shift, Element, Term, Statement, OneLoop, literal, subscript, element_expr, term_expr, sum_expr, statement_of, loop_of}
 use Rattle.species_reference.specs.References as ref
 use Rattle.species_reference.proofs.Elements as eq
 use Rattle.species_reference.proofs.SeenLemmas.{accesses-Assign}
@@ -20,7 +19,7 @@ use Rattle.species_ast.specs.declared.tree.Stmt.{Stmt}
 use Rattle.species_ast.specs.declared.tree.Stmt.TheOpen.{Loop-F}
 use Rattle.species_cli.proofs.TableLemmas.{layer-loop_of}
 use Rattle.species_reference.specs.References.{Access, value_at, subscript_value, elements_of, read_of, statement_accesses, accesses_of, offset_of, reference_of, numbered, references_of}
-use Rattle.species_cli.specs.Table.{passes, bound_value, start_of, last_of, low_of, high_of, Takes, IsInSet, IsTrueLine, IsTrueTable}
+use Rattle.species_cli.specs.Table.{passes, bound_value, start_of, Takes, IsTrueLine, IsTrueTable}
 
 -- The value of a subscript.
 

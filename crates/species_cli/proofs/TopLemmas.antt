@@ -1,11 +1,11 @@
 -- What the top call leaves with each status.
-use Rattle.std.proofs.Common.{◌≡◌, ◌≢◌, ◌⊎◌, inl, inr, ◌∙◌, ap, sym, refl, subst, ℕ, ◌≤◌, ◌<◌, List, length, Option, Some, None, String, Global, arith}
+use Rattle.std.proofs.Common.{◌≡◌, ◌≢◌, ◌⊎◌, inl, inr, ◌∙◌, ap, sym, refl, subst, ℕ, ◌≤◌, ◌<◌, List, length, Option, Some, String, Global}
 use Rattle.species_ast.specs.declared.tree.Unit as unit
 use Rattle.species_io.specs.Told.{IsLonger, then_bytes, TookPart}
-use Rattle.species_reference.specs.OneLoop.{OneLoop, unit_of, loop_of}
+use Rattle.species_reference.specs.OneLoop.{OneLoop, unit_of}
 use Rattle.species_cli.specs.OneLoopText.{IsOneLoopText}
-use Rattle.species_cli.specs.Table.{table_of, IsTrueTable}
-use Rattle.species_cli.specs.Answer.{IsArcs, HasLine, IsNoted, IsPartlyNoted, IsPartlyAnswered, IsAnswered, IsNoOneLoop, most_input, usage_line, read_fault_line, too_long_line, not_built_line}
+use Rattle.species_cli.specs.Table.{table_of}
+use Rattle.species_cli.specs.Answer.{IsArcs, HasLine, IsNoted, IsPartlyNoted, IsPartlyAnswered, IsAnswered, IsNoOneLoop, most_input}
 use Rattle.species_cli.proofs.TableTruth.{true_table}
 
 pub noted : (words : List (String Global)) (rose : Type 0) (bytes : List ℕ) (status result : ℕ) (line : List ℕ) (old new : Option (List ℕ))

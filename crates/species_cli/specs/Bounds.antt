@@ -1,5 +1,5 @@
 -- Bounds of a loop that leave room for an offset.
-use Rattle.std.specs.Prelude.{ℕ, ◌^◌, ◌≤◌}
+use Rattle.std.specs.Prelude.{◌^◌, ◌≤◌}
 use Rattle.std.specs.Int.RustNames.{unsigned_abs}
 use Rattle.species_cli.specs.declared.table.Bounds.{Bounds}
 

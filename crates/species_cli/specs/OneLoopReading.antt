@@ -1,5 +1,5 @@
 -- Reading a one-loop program: from bytes to what stands at their front, and the bytes behind it.
-use Rattle.std.specs.Prelude.{◌≡◌, ℕ, zero, suc, ◌+◌, ◌*◌, ◌-◌, Bool, true, false, not, ◌&&◌, ◌||◌, nat_eq, nat_le, if◌then◌else◌, List, [], ◌∷◌, ◌++◌, map, length, drop, take_while, position, bytes_eq, codes, decimal, pos, Option, Some, None, Result, Ok, Err}
+use Rattle.std.specs.Prelude.{◌≡◌, ℕ, zero, suc, ◌+◌, ◌*◌, ◌-◌, Bool, false, not, ◌&&◌, nat_eq, nat_le, if◌then◌else◌, List, [], ◌∷◌, ◌++◌, map, length, drop, take_while, position, bytes_eq, codes, decimal, pos, Option, Some, None, Result, Ok, Err}
 use Rattle.std.specs.List.{list_any}
 use Rattle.species_ast.specs.Names.{is_name, is_word, is_digit}
 use Rattle.species_ast.specs.declared.tree.Array.{Array}
@@ -12,9 +12,8 @@ use Rattle.species_ast.specs.declared.tree.Stmt.TheVariants as stmt
 use Rattle.species_ast.specs.declared.tree.Test.TheVariants as test
 use Rattle.species_ast.specs.declared.tree.Mark.TheVariants as mark
 use Rattle.species_ast.specs.declared.tree.Loop.{roll-Loop}
-use Rattle.species_ast.specs.declared.tree.Stmt.TheOpen.{Loop-F}
 use Rattle.species_ast.specs.declared.tree.Unit as tree
-use Rattle.species_reference.specs.OneLoop.{literal, array_of, Declaration, most_size, most_number}
+use Rattle.species_reference.specs.OneLoop.{literal, array_of, most_size, most_number}
 use Rattle.species_cli.specs.declared.one_loop.ReadRefusal.{ReadRefusal}
 use Rattle.species_cli.specs.declared.one_loop.ReadRefusal.TheVariants as refusal
 use denote.Ref.{Bor}

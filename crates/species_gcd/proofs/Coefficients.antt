@@ -1,11 +1,10 @@
 -- The common divisors of the coefficients, level by level.
-use Rattle.std.proofs.Common.{◌≡◌, ℕ, ◌+◌, ◌<◌, ◌≤◌, ℤ, pos, ◌*ℤ◌, arith, subst, sym, ap, refl, List, length, Bool, true, false, IsTrue, nat_lt, ◌⊎◌, inl, inr, ◌↔◌}
+use Rattle.std.proofs.Common.{◌≡◌, ℕ, ◌+◌, ◌<◌, ◌≤◌, ℤ, pos, ◌*ℤ◌, arith, subst, sym, List, Bool, true, false, nat_lt, ◌⊎◌, inl, inr, ◌↔◌}
 use Rattle.std.specs.Int.{◌∣◌, IsGcd}
 use Rattle.std.specs.Int.RustNames.{unsigned_abs}
 use Rattle.std.proofs.lemmas.Nat.Gcd.{dvd_refl, dvd-zero, dvd_trans}
 use Rattle.std.proofs.lemmas.Bool.Decides.{nat_tests}
 use Rattle.species_integers.proofs.Products.{mul_zero}
-use Rattle.species_linear.specs.declared.forms.Term.{Term}
 use Rattle.species_linear.specs.declared.forms.Form.{Form}
 use Rattle.species_linear.specs.declared.loops.LoopRange.{LoopRange}
 use Rattle.species_linear.specs.declared.loops.Direction.{Direction}

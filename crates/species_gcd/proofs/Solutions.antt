@@ -1,5 +1,5 @@
 -- Where two forms have one value at a pair of the region, each common divisor of the coefficients divides the constant.
-use Rattle.std.proofs.Common.{◌≡◌, ℕ, ◌<◌, ◌≤◌, ℤ, pos, ◌+ℤ◌, ◌-ℤ◌, ◌*ℤ◌, arith, refl, subst, sym, ap, List, length, IsTrue, nat_lt, ◌↔◌}
+use Rattle.std.proofs.Common.{◌≡◌, ℕ, ◌<◌, ℤ, pos, ◌+ℤ◌, ◌-ℤ◌, ◌*ℤ◌, arith, refl, subst, ap, List, IsTrue, nat_lt, ◌↔◌}
 use Rattle.std.specs.Int.{◌∣◌}
 use Rattle.std.specs.Int.RustNames.{unsigned_abs, int_div, int_rem}
 use Rattle.std.proofs.lemmas.Int.{ints, quot-rem}

@@ -1,12 +1,11 @@
 -- Divisors of the difference of two totals.
-use Rattle.std.proofs.Common.{◌≡◌, ℕ, zero, suc, ◌<◌, ℤ, pos, ◌+ℤ◌, ◌-ℤ◌, ◌*ℤ◌, arith, refl, subst, ap, Bool, true, false, IsTrue, ◌↔◌}
+use Rattle.std.proofs.Common.{◌≡◌, ℕ, zero, suc, ◌<◌, ℤ, pos, ◌+ℤ◌, ◌-ℤ◌, ◌*ℤ◌, arith, refl, subst, ap, Bool, true, false, IsTrue}
 use Rattle.std.specs.Int.{◌∣◌}
 use Rattle.std.specs.Int.RustNames.{unsigned_abs}
 use Rattle.std.proofs.lemmas.Int.{ints}
 use Rattle.std.proofs.lemmas.Nat.Gcd.{dvd-zero}
 use Rattle.species_integers.proofs.Products.{mul_plus, minus_mul, mul_assoc}
 use Rattle.species_integers.proofs.Divisors.{dvd_sum, dvd_difference, dvd_product}
-use Rattle.species_linear.specs.Point.{Point}
 use Rattle.species_linear.proofs.Parts.{total_of}
 use Rattle.species_gcd.specs.Divisor.{DividesLevel}
 

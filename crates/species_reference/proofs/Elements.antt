@@ -1,5 +1,5 @@
 -- The elements of simple expressions, one equation for each form.
-use Rattle.std.proofs.Common.{◌≡◌, ◌∙◌, ap, sym, refl, subst, ℕ, Bool, true, false, ◌&&◌, List, [], ◌∷◌, ◌++◌, map}
+use Rattle.std.proofs.Common.{◌≡◌, ◌∙◌, ap, sym, refl, ℕ, Bool, true, ◌&&◌, List, [], ◌∷◌, ◌++◌, map}
 use Rattle.std.proofs.lemmas.Bool.{and_parts}
 use Rattle.std.specs.List.{flat_map}
 use Rattle.species_ast.specs.declared.tree.Value.{Value}
@@ -7,10 +7,10 @@ use Rattle.species_ast.specs.declared.tree.Unary.{Unary}
 use Rattle.species_ast.specs.declared.tree.Kind.{Kind}
 use Rattle.species_ast.specs.declared.tree.Binary.{Binary}
 use Rattle.species_ast.specs.declared.tree.Binary.TheVariants as binary
-use Rattle.species_ast.specs.declared.tree.Expr.{Expr, roll-Expr, out-Expr, roll-out-Expr, out-roll-Expr, para-Expr, para-roll-Expr}
+use Rattle.species_ast.specs.declared.tree.Expr.{Expr, roll-Expr, out-Expr, roll-out-Expr, para-roll-Expr}
 use Rattle.species_ast.specs.declared.tree.Expr.TheOpen.{Expr-F}
 use Rattle.species_ast.specs.declared.tree.Expr.TheVariants as expr
-use Rattle.species_reference.specs.References.{Element, elements_at, elements_of, read_of}
+use Rattle.species_reference.specs.References.{elements_at, elements_of}
 use Rattle.species_reference.specs.Shape.{is_literal_at, is_literal, is_iterator_at, is_shift_at, is_simple_subscripts, is_simple_at, is_simple_value}
 
 pub elements-Literal : (n : Value) → elements_of (expr.Literal n) ≡ []

@@ -1,17 +1,15 @@
 -- The loop of a one-loop program: its statements are simple, and its accesses are few.
-use Rattle.std.proofs.Common.{◌≡◌, ◌∙◌, ap, sym, refl, arith, ℕ, zero, suc, ◌+◌, ◌*◌, ◌≤◌, Bool, true, ◌&&◌, List, [], ◌∷◌, ◌++◌, map, length, length-append, get_or, ◌<◌}
-use Rattle.std.specs.List.{flat_map, list_all}
+use Rattle.std.proofs.Common.{◌≡◌, ◌∙◌, ap, refl, arith, ℕ, zero, suc, ◌+◌, true, List, [], ◌∷◌, ◌++◌, map, length, length-append, get_or, ◌<◌}
+use Rattle.std.specs.List.{flat_map}
 use Rattle.std.proofs.lemmas.Bool.{and_from}
 use Rattle.species_ast.specs.declared.tree.Binary.TheVariants as binary
-use Rattle.species_ast.specs.declared.tree.Value.TheVariants as value
-use Rattle.species_ast.specs.declared.tree.Expr.{Expr, out-Expr}
+use Rattle.species_ast.specs.declared.tree.Expr.{Expr}
 use Rattle.species_ast.specs.declared.tree.Expr.TheVariants as expr
 use Rattle.species_ast.specs.declared.tree.Stmt.{Stmt}
-use Rattle.species_ast.specs.declared.tree.Stmt.TheVariants as stmt
 use Rattle.species_ast.specs.declared.tree.Stmt.TheOpen.{Loop-F}
-use Rattle.species_ast.specs.declared.tree.Loop.{Loop, out-Loop, roll-Loop, out-roll-Loop}
+use Rattle.species_ast.specs.declared.tree.Loop.{Loop, out-Loop, out-roll-Loop}
 use Rattle.species_reference.specs.OneLoop.{Shift, Element, Term, Statement, OneLoop, literal, subscript, element_expr, term_expr, sum_expr, statement_of, layer_of, loop_of, term_elements, terms_elements, element_count}
-use Rattle.species_reference.specs.References.{Access, elements_of, read_of, statement_accesses, accesses_of}
+use Rattle.species_reference.specs.References.{elements_of, read_of, statement_accesses, accesses_of}
 use Rattle.species_reference.specs.Shape.{is_shift_at, is_literal_at, is_iterator_at, is_simple_subscripts, is_simple_value, is_simple_statement}
 use Rattle.species_reference.proofs.Elements as eq
 use Rattle.species_reference.proofs.SeenLemmas.{accesses-Assign, simple-Assign}

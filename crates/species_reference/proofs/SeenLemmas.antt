@@ -1,6 +1,6 @@
 -- Accesses that are collected one part after another.
-use Rattle.std.proofs.Common.{◌≡◌, ◌∙◌, ap, sym, refl, arith, ℕ, suc, ◌+◌, List, [], ◌∷◌, ◌++◌, map, length, append_assoc, append-nil, take, ◌<◌, get_or, take_all, ◌≤◌}
-use Rattle.std.proofs.Common.{Bool, true, ◌&&◌, subst}
+use Rattle.std.proofs.Common.{◌≡◌, ◌∙◌, ap, sym, refl, ℕ, ◌+◌, List, [], ◌∷◌, ◌++◌, map, length, append_assoc, append-nil, take, ◌<◌, get_or, take_all, ◌≤◌}
+use Rattle.std.proofs.Common.{true, ◌&&◌}
 use Rattle.std.proofs.lemmas.Bool.{and_parts}
 use Rattle.std.proofs.lemmas.List.{map-append, take_more}
 use Rattle.std.proofs.lemmas.Grind.{flat_map-append}

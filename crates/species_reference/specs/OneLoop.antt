@@ -1,5 +1,5 @@
 -- One-loop programs: arrays of one dimension, and a single loop of assignments to their elements.
-use Rattle.std.specs.Prelude.{◌≡◌, ℕ, ◌+◌, ◌≤◌, ◌<◌, List, [], ◌∷◌, map, length, None, pos, All}
+use Rattle.std.specs.Prelude.{ℕ, ◌+◌, ◌≤◌, ◌<◌, List, [], ◌∷◌, map, length, None, pos, All}
 use Rattle.species_ast.specs.declared.tree.Unit as unit
 use Rattle.species_ast.specs.declared.tree.Array.{Array}
 use Rattle.species_ast.specs.declared.tree.Kind.TheVariants as kind

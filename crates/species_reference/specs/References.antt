@@ -9,7 +9,7 @@ use Rattle.species_ast.specs.declared.tree.Expr.{Expr, fold-Expr, para-Expr}
 use Rattle.species_ast.specs.declared.tree.Expr.TheOpen.{Expr-F}
 use Rattle.species_ast.specs.declared.tree.Stmt.{Stmt, out-Stmt}
 use Rattle.species_ast.specs.declared.tree.Loop.{Loop, out-Loop}
-use Rattle.species_ast.specs.declared.tree.Stmt.TheOpen.{Stmt-F, Loop-F}
+use Rattle.species_ast.specs.declared.tree.Stmt.TheOpen.{Stmt-F}
 use Rattle.species_reference.specs.declared.Dir.{Dir}
 use Rattle.species_reference.specs.declared.Dir.TheVariants as dir
 use Rattle.species_reference.specs.declared.FirstReference.{FirstReference}

@@ -1,5 +1,5 @@
 -- The shape of the expressions and statements of a one-loop program, as tests on trees.
-use Rattle.std.specs.Prelude.{ℕ, Bool, true, false, ◌&&◌, List, [], ◌∷◌, map}
+use Rattle.std.specs.Prelude.{Bool, true, false, ◌&&◌, List, [], ◌∷◌, map}
 use Rattle.species_ast.specs.declared.tree.Binary.TheVariants as binary
 use Rattle.species_ast.specs.declared.tree.Expr.{Expr, out-Expr, para-Expr}
 use Rattle.species_ast.specs.declared.tree.Expr.TheOpen.{Expr-F}

@@ -1,7 +1,6 @@
 -- What the conditions of the tests say of each level, those beyond the path included.
 use Rattle.std.proofs.Common.{◌≡◌, ◌≢◌, ℕ, zero, suc, ◌≤◌, ◌<◌, ◌^◌, pos, arith, true, false, List, [], ◌∷◌, length, All, IsSome}
 use Rattle.std.specs.Int.RustNames.{unsigned_abs}
-use Rattle.species_linear.specs.declared.forms.Term.{Term}
 use Rattle.species_linear.specs.declared.forms.Form.{Form}
 use Rattle.species_linear.specs.declared.loops.LoopRange.{LoopRange}
 use Rattle.species_linear.specs.Value.{coefficient_at, NamesOnly, HasSmallForm}

@@ -19,8 +19,8 @@ Differ false u v = v <ℤ u
 -- A pair of points of the two iteration spaces that agree before the level of the direction and differ there as it says.
 -- At the levels below it the two are free of each other.
 pub record IsInRegion (at : Direction) (ps qs : List LoopRange) (x y : Point) : Type 0 where
-  pub source : IsInSpace ps x
-  pub sink : IsInSpace qs y
+  pub first : IsInSpace ps x
+  pub second : IsInSpace qs y
   pub agree : (k : ℕ) → k < level_of at → x k ≡ y k
   pub differ : Differ at.less (x (level_of at)) (y (level_of at))
 

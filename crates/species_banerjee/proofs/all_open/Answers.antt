@@ -1,4 +1,4 @@
-use Rattle.std.proofs.Common.{◌≡◌, ◌≤◌, ℕ, true, false, arith, refl, sym, subst, ◌⊎◌, inl, inr}
+use Rattle.std.proofs.Common.{ℕ, false, arith, refl, sym, subst, inl, inr}
 use Rattle.species_banerjee.specs.declared.pairs.LoopPair.{LoopPair}
 use Rattle.species_banerjee.specs.LoopPair.{loop_pair_at, IsOpen}
 use Rattle.species_banerjee.proofs.Regroup.{never_both, before_or_here, all_from_16}

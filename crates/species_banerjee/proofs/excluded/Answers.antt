@@ -1,4 +1,4 @@
-use Rattle.std.proofs.Common.{◌≡◌, true, refl, inl, inr}
+use Rattle.std.proofs.Common.{true, refl, inl, inr}
 use Rattle.std.proofs.lemmas.Bool.{OnTrue_from}
 use Rattle.species_region.specs.Region.{NeverMeet}
 use Rattle.species_banerjee.proofs.Regroup.{never_both, not_open_empty}

@@ -1,4 +1,4 @@
-use Rattle.std.proofs.Common.{◌≡◌, ◌≤◌, ◌<◌, ◌^◌, ◌+◌, ◌*◌, ℕ, ℤ, pos, ◌-ℤ◌, ◌<ℤ◌, FitsSigned, to_z, true, arith, refl, sym, subst, rules, ◌⊎◌, inl, inr}
+use Rattle.std.proofs.Common.{◌≡◌, ◌≤◌, ◌^◌, ℕ, ℤ, pos, ◌-ℤ◌, ◌<ℤ◌, FitsSigned, to_z, true, arith, sym, subst, rules, inl, inr}
 use Rattle.std.specs.Int.{w128}
 use Rattle.std.specs.Int.RustNames.{unsigned_abs, int_lt}
 use Rattle.std.proofs.lemmas.Int.{ints, to_z-of_z, fits_signed_from_abs}
@@ -6,7 +6,7 @@ use Rattle.species_integers.proofs.Sizes.{abs_difference}
 use Rattle.species_linear.specs.Value.{NamesOnly}
 use Rattle.species_region.proofs.Levels.{small_coefficient, names_16}
 use Rattle.species_banerjee.specs.declared.pairs.LoopPair.{LoopPair}
-use Rattle.species_banerjee.specs.LoopPair.{loop_pair_at, IsOpen, IsUsable}
+use Rattle.species_banerjee.specs.LoopPair.{IsOpen, IsUsable}
 use Rattle.species_banerjee.proofs.Regroup.{usable}
 use Rattle.species_banerjee.proofs.Signs.{least_first, greatest_first, least_more, greatest_more, more_small, sign_by_extremes}
 use Rattle.species_banerjee.proofs.has_one_sign.Goals as goal

@@ -1,7 +1,6 @@
-use Rattle.std.proofs.Common.{rules, arith, ◌≡◌, ◌∙◌, ap, sym, length, map, ◌<◌, ◌^◌}
+use Rattle.std.proofs.Common.{rules, arith, ◌≡◌, ◌∙◌, ap, sym, length, map}
 use Rattle.std.specs.List.{flat_map}
 use Rattle.std.proofs.lemmas.List.{length-map}
-use Rattle.species_ast.specs.declared.tree.Loop.{out-Loop}
 use Rattle.species_reference.specs.References.{accesses_of, statement_accesses}
 use Rattle.species_reference.specs.Seen.{seen_of}
 use Rattle.species_reference.proofs.OneLoopLemmas.{simple_item, accesses-loop_of}

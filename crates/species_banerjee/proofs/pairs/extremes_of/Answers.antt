@@ -1,8 +1,6 @@
-use Rattle.std.proofs.Common.{◌≡◌, ℤ, FitsSigned, rules}
+use Rattle.std.proofs.Common.{FitsSigned, rules}
 use Rattle.std.proofs.lemmas.Int.{to_z-of_z}
 use Rattle.std.specs.Int.{w128}
-use Rattle.species_linear.specs.Box.{IsLeastOver, IsGreatestOver}
-use Rattle.species_banerjee.specs.LoopPair.{Allows, gap_of}
 use Rattle.species_banerjee.proofs.Spreads.{least_at_corners, greatest_at_corners, spread_of_same, taken_small}
 use Rattle.species_banerjee.proofs.pairs.extremes_of.Goals as goal
 

@@ -1,5 +1,5 @@
 use Rattle.std.specs.Int.Signed.{le_z, lt_z}
-use Rattle.std.proofs.Common.{true, false, ◌≤ℤ◌, ◌<ℤ◌, ◌≡◌, ℤ, FitsSigned, arith, rules}
+use Rattle.std.proofs.Common.{true, ◌≤ℤ◌, ◌<ℤ◌, ◌≡◌, ℤ, FitsSigned, arith, rules}
 use Rattle.std.proofs.lemmas.Int.{ints, to_z-of_z}
 use Rattle.std.specs.Int.{w128}
 use Rattle.species_banerjee.specs.declared.pairs.Entry.TheVariants.{Equal, Less, Greater}

@@ -1,5 +1,4 @@
-use Rattle.std.proofs.Common.{rules, arith, ◌≡◌, ◌∙◌, ap, sym, refl, inl, inr, ◌≢◌, length}
-use Rattle.species_io.specs.Told.{Rose}
+use Rattle.std.proofs.Common.{rules, arith, ap, refl, inl, ◌≢◌, length}
 use Rattle.species_cli.specs.Answer.{IsArcs, HasLine, usage_line, read_fault_line, too_long_line, not_built_line}
 use Rattle.species_cli.proofs.TopLemmas.{noted, partly_noted, longer, not_built, answered, partly_answered}
 use Rattle.species_cli.proofs.top.species.Goals as goal

@@ -1,4 +1,4 @@
-use Rattle.std.proofs.Common.{rules, arith, refl, get_or, ◌∙◌, sym}
+use Rattle.std.proofs.Common.{rules, refl, get_or, ◌∙◌, sym}
 use Rattle.species_cli.proofs.Lists.{two_items}
 use Rattle.species_cli.proofs.words.read_words.Goals as goal
 

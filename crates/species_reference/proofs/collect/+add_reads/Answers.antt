@@ -1,4 +1,4 @@
-use Rattle.std.proofs.Common.{rules, ◌≡◌, sym, ap, ◌∙◌, ◌++◌, ◌∷◌, []}
+use Rattle.std.proofs.Common.{sym, ap, ◌∙◌, ◌++◌, ◌∷◌, []}
 use Rattle.species_reference.specs.References.{elements_of}
 use Rattle.species_reference.specs.Seen.{seen_reads}
 use Rattle.species_reference.specs.Shape.{is_simple_value}

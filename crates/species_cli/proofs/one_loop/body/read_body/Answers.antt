@@ -1,5 +1,4 @@
-use Rattle.std.proofs.Common.{◌≡◌, ◌∙◌, true, false, rules, arith}
-use Rattle.std.specs.Prelude.{nat_le}
+use Rattle.std.proofs.Common.{◌∙◌, rules}
 use Rattle.std.proofs.lemmas.Bool.{le-leb, lt-leb}
 use Rattle.species_cli.proofs.OneLoopLoops.{body_stop, body_next, body_end}
 use Rattle.species_cli.proofs.one_loop.body.read_body.Goals as goal

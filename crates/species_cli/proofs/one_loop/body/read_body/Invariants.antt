@@ -1,4 +1,4 @@
-use Rattle.std.proofs.Common.{◌≡◌, ◌≤◌, ◌-◌, length, []}
+use Rattle.std.proofs.Common.{◌≡◌, ◌-◌, []}
 use Rattle.species_cli.specs.OneLoopReading.{body_at}
 use Rattle.species_cli.proofs.one_loop.body.read_body.Given as goal
 

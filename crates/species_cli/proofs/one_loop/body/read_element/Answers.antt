@@ -1,5 +1,5 @@
-use Rattle.std.proofs.Common.{◌≡◌, ◌∙◌, ap, sym, take, drop, length, rules}
-use Rattle.std.specs.Prelude.{take_while, position, bytes_eq}
+use Rattle.std.proofs.Common.{◌≡◌, ◌∙◌, ap, take, drop, length, rules}
+use Rattle.std.specs.Prelude.{take_while}
 use Rattle.species_ast.specs.Names.{is_word}
 use Rattle.species_cli.specs.OneLoopReading.{element_at}
 use Rattle.species_cli.proofs.OneLoopWords.{run_front}

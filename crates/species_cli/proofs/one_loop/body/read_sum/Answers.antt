@@ -1,4 +1,4 @@
-use Rattle.std.proofs.Common.{◌≡◌, ◌∙◌, rules, arith}
+use Rattle.std.proofs.Common.{◌∙◌, rules, arith}
 use Rattle.species_cli.proofs.OneLoopLoops.{sum_stop, sum_next, sum_end}
 use Rattle.species_cli.proofs.OneLoopSound.{some_same}
 use Rattle.species_cli.proofs.one_loop.body.read_sum.Goals as goal

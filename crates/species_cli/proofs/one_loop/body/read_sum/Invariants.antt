@@ -1,4 +1,4 @@
-use Rattle.std.proofs.Common.{◌≡◌, ◌≤◌, ◌+◌, ◌-◌, length}
+use Rattle.std.proofs.Common.{◌≡◌, ◌≤◌, ◌+◌, ◌-◌}
 use Rattle.species_cli.specs.OneLoopReading.{sum_at}
 use Rattle.species_cli.proofs.one_loop.body.read_sum.Given as goal
 

@@ -1,5 +1,5 @@
-use Rattle.std.proofs.Common.{◌≡◌, ◌∙◌, ap, sym, true, false, length, rules}
-use Rattle.species_cli.specs.OneLoopReading.{all_arrays_at, names_in, declared_of}
+use Rattle.std.proofs.Common.{◌≡◌, ◌∙◌, true, false, length, rules}
+use Rattle.species_cli.specs.OneLoopReading.{all_arrays_at}
 use Rattle.species_cli.proofs.OneLoopLoops.{arrays_stop, arrays_next, arrays_end, names_more, stood, one_longer}
 use Rattle.species_cli.proofs.OneLoopSound.{some_same}
 use Rattle.species_cli.proofs.one_loop.header.read_arrays.Goals as goal

@@ -1,5 +1,4 @@
 use Rattle.std.proofs.Common.{rules}
-use Rattle.std.specs.Prelude.{bytes_eq}
 use Rattle.species_cli.proofs.NameTable.{any_mapped}
 use Rattle.species_cli.proofs.one_loop.names.ArrayNames.declare.Goals as goal
 
