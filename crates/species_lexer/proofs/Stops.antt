@@ -6,8 +6,8 @@ use Rattle.species_ast.specs.Text.Stream.{head_behind}
 use Rattle.species_lexer.specs.declared.piece.Piece.{Piece}
 use Rattle.species_lexer.specs.declared.piece.Piece.TheVariants as piece
 use Rattle.species_lexer.specs.Pieces.{seen_piece, piece_at, Fits}
-use Rattle.species_lexer.specs.Cursor.{stream_at, IsAt}
-use Rattle.species_lexer.specs.Found.{space_in, IsSolid}
+use Rattle.species_lexer.specs.Cursor.{IsAt}
+use Rattle.species_lexer.specs.Found.{space_in, IsSolid, Passes}
 use Rattle.species_lexer.proofs.Streams.{after_space}
 
 pub solid : (o : Option Piece) (bytes : List ℕ) → IfSome o (λ p. Fits p bytes) → space_in o ≡ 0 → IsSolid o
@@ -26,13 +26,16 @@ space_is (Some (piece.Refused fault)) n bytes is some fits = let x : ⊥ = omega
 
 -- one turn of the loop
 pub past_one : (text rest front : List ℕ) (at n start : ℕ) (is_head head : Bool) (o : Option Piece)
-    → at ≤ length text → IsAt text at is_head → stream_at text at ≡ stream_at text start → rest ≡ drop at text → front ≡ take n rest → head ≡ head_behind is_head front
+    → Passes text start at is_head → rest ≡ drop at text → front ≡ take n rest → head ≡ head_behind is_head front
     → option_map seen_piece o ≡ piece_at is_head rest → IfSome o (λ p. Fits p rest) → n ≡ space_in o → 0 < n
-    → (at + n ≤ length text) × IsAt text (at + n) head × (stream_at text (at + n) ≡ stream_at text start)
-past_one text rest front at n start is_head head o within here same re fe he is fits ne some =
+    → Passes text start (at + n) head
+past_one text rest front at n start is_head head o p re fe he is fits ne some =
     let s = space_is o n rest ne some fits in
-    let a = after_space text at n is_head here (sym (ap (piece_at is_head) re) ∙ sym is ∙ s.0) (some, subst (λ z. n ≤ length z) re s.1) in (
-      omega (arith, within, s.1, ap length re, length-drop at text),
-      subst (IsAt text (at + n)) (sym (he ∙ ap (head_behind is_head) (fe ∙ ap (take n) re))) a.0,
-      a.1 ∙ same,
-    )
+    let a = after_space text at n is_head p.reached (sym (ap (piece_at is_head) re) ∙ sym is ∙ s.0) (some, subst (λ z. n ≤ length z) re s.1) in
+    record {
+      forward = omega (arith, p.forward);
+      within = omega (arith, p.within, s.1, ap length re, length-drop at text);
+      reached = subst (IsAt text (at + n)) (sym (he ∙ ap (head_behind is_head) (fe ∙ ap (take n) re))) a.0;
+      definitions = a.1 ∙ p.definitions;
+      same = a.2 ∙ p.same;
+    }

@@ -11,7 +11,7 @@ use Rattle.species_ast.specs.Text.Stream.{Definition, look_up, define_once, in_s
 use Rattle.species_ast.proofs.Cutting.{any_bound}
 use Rattle.species_lexer.specs.Pieces.{piece_at}
 use Rattle.species_lexer.specs.Found.{kind_of}
-use Rattle.species_lexer.specs.Cursor.{Before, over, before_at, stream_at, IsAt}
+use Rattle.species_lexer.specs.Cursor.{Before, over, before_at, stream_at, IsAt, DefinedBefore}
 use Rattle.species_lexer.proofs.Walk.{join, at_first, over_more, one_space, one_lexeme, one_define}
 use Rattle.species_lexer.proofs.Plain.{plain_piece}
 
@@ -33,6 +33,9 @@ plain_kind literal _ text ds h = refl
 at_is : (text : List ℕ) (at : ℕ) (b : Before) → over text 0 at true ≡ Some b → before_at text at ≡ b
 at_is text at b e = ap (λ o. unwrap_or o (record { is_head = false; definitions = [] })) e
 
+keeps : (text : List ℕ) (at : ℕ) (b : Before) → over text 0 at true ≡ Some b → (before_at text at).definitions ≡ b.definitions
+keeps text at b e = ap (λ x. x.definitions) (at_is text at b e)
+
 reaches : (text : List ℕ) (at : ℕ) (b : Before) → over text 0 at true ≡ Some b → IsAt text at b.is_head
 reaches text at b e = record { ends = e ∙ ap Some (sym (at_is text at b e)); head = ap (λ x. x.is_head) (at_is text at b e) }
 
@@ -42,6 +45,13 @@ first text = reaches text 0 (at_first true) (go text)
     go : (bytes : List ℕ) → over bytes 0 0 true ≡ Some (at_first true)
     go [] = refl
     go (x ∷ bytes) = refl
+
+-- the definitions stand before the same place, also behind a piece that defines no name
+pub defined_still : (text : List ℕ) (defined at more : ℕ) → DefinedBefore text defined at → at ≤ more → (before_at text more).definitions ≡ (before_at text at).definitions → DefinedBefore text defined more
+defined_still text defined at more d le same = record { within = omega (arith, d.within, le); ends = d.ends; same = d.same ∙ sym same }
+
+pub defined_here : (text : List ℕ) (at : ℕ) (is_head : Bool) → IsAt text at is_head → DefinedBefore text at at
+defined_here text at is_head here = record { within = omega arith; ends = here.ends; same = refl }
 
 -- behind some bytes more
 further : (text rest : List ℕ) (at n : ℕ) (b c : Before) → over text 0 at true ≡ Some b → drop at text ≡ rest → over rest 0 n b.is_head ≡ Some c
@@ -83,7 +93,7 @@ stands text at is_head p here e = go (drop at text) refl (ap (λ h. piece_at h (
     go (x ∷ rest) r f = record { x = x; rest = rest; is = r; piece = piece_is _ p (sym (ap (piece_at (before_at text at).is_head) r) ∙ f) }
 
 pub after_space : (text : List ℕ) (at n : ℕ) (is_head : Bool) → IsAt text at is_head → piece_at is_head (drop at text) ≡ Some (Space n) → Fits n (drop at text)
-    → IsAt text (at + n) (head_behind is_head (take n (drop at text))) × (stream_at text (at + n) ≡ stream_at text at)
+    → IsAt text (at + n) (head_behind is_head (take n (drop at text))) × ((before_at text (at + n)).definitions ≡ (before_at text at).definitions) × (stream_at text (at + n) ≡ stream_at text at)
 after_space text at n is_head here e fits =
     let s = stands text at is_head (Space n) here e in
     let b = before_at text at in
@@ -93,13 +103,14 @@ after_space text at n is_head here e fits =
     further text (s.x ∷ s.rest) at n b (at_first (head_behind b.is_head (take n (s.x ∷ s.rest)))) here.ends s.is (one_space s.x s.rest n b.is_head s.piece f.0 f.1)
     ∙ ap (λ ds. Some (record { is_head = head_behind b.is_head (take n (s.x ∷ s.rest)); definitions = ds })) (append-nil b.definitions) in (
       subst (IsAt text (at + n)) (ap (λ z. head_behind b.is_head (take n z)) (sym s.is) ∙ ap (λ h. head_behind h (take n (drop at text))) here.head) (reaches text (at + n) c o),
+      keeps text (at + n) c o,
       sym (step text s.rest at s.x b here.ends s.is
           ∙ ap (λ p. cut_piece (cut_at (length s.rest)) at b.is_head b.definitions (s.x ∷ s.rest) (in_scope b.definitions p)) s.piece
           ∙ behind text s.rest at n s.x c o s.is f),
     )
 
 pub after_lexeme : (text : List ℕ) (at n : ℕ) (is_head : Bool) (word : List ℕ) (k : TokenKind) → IsAt text at is_head → piece_at is_head (drop at text) ≡ Some (Lexeme n word k) → Fits n (drop at text)
-    → IsAt text (at + n) false × (stream_at text at ≡ put (record { place = at; text = word; kind = kind_of (look_up (before_at text at).definitions word) k }) (stream_at text (at + n)))
+    → IsAt text (at + n) false × ((before_at text (at + n)).definitions ≡ (before_at text at).definitions) × (stream_at text at ≡ put (record { place = at; text = word; kind = kind_of (look_up (before_at text at).definitions word) k }) (stream_at text (at + n)))
 after_lexeme text at n is_head word k here e fits =
     let s = stands text at is_head (Lexeme n word k) here e in
     let b = before_at text at in
@@ -111,6 +122,7 @@ after_lexeme text at n is_head word k here e fits =
     let literal = look_up b.definitions word in
     let t : Token = record { place = at; text = word; kind = kind_of literal k } in (
       reaches text (at + n) c o,
+      keeps text (at + n) c o,
       step text s.rest at s.x b here.ends s.is
           ∙ ap (λ p. cut_piece (cut_at (length s.rest)) at b.is_head b.definitions (s.x ∷ s.rest) p) (ap (in_scope b.definitions) s.piece ∙ scope_lexeme b.definitions n word k)
           ∙ ap (λ ds. put t (cut_at (length s.rest) (at + n) false ds (drop n (s.x ∷ s.rest)))) (plain_kind literal k word b.definitions (plain_piece b.is_head s.x s.rest n word k s.piece))

@@ -46,8 +46,15 @@ pub record IsAt (text : List ℕ) (at : ℕ) (is_head : Bool) : Type 0 where
   pub ends : over text 0 at true ≡ Some (before_at text at)
   pub head : (before_at text at).is_head ≡ is_head
 
+-- a piece ends at `defined`, and before it stand all definitions that stand before `at`
+pub record DefinedBefore (text : List ℕ) (defined : ℕ) (at : ℕ) : Type 0 where
+  pub within : defined ≤ at
+  pub ends : over text 0 defined true ≡ Some (before_at text defined)
+  pub same : (before_at text defined).definitions ≡ (before_at text at).definitions
+
 -- what holds of a cursor
-pub record IsCursor (text : List ℕ) (at : ℕ) (is_head : Bool) : Type 0 where
+pub record IsCursor (text : List ℕ) (at : ℕ) (is_head : Bool) (defined : ℕ) : Type 0 where
   pub short : length text ≤ 4194304
   pub within : at ≤ length text
   pub reached : IsAt text at is_head
+  pub definitions : DefinedBefore text defined at

@@ -8,9 +8,9 @@ use Rattle.species_ast.specs.declared.token.LexRefusal.{LexRefusal}
 use Rattle.species_lexer.specs.declared.piece.Piece.{Piece}
 use Rattle.species_lexer.specs.declared.piece.Piece.TheVariants as piece
 use Rattle.species_lexer.specs.declared.scan.Stop.{Stop}
-use Rattle.species_lexer.specs.declared.token.Token.{Token}
+use Rattle.species_lexer.specs.declared.scan.Step.{Step}
 use Rattle.species_lexer.specs.Pieces.{seen_piece, piece_at, Fits}
-use Rattle.species_lexer.specs.Cursor.{stream_at, IsAt}
+use Rattle.species_lexer.specs.Cursor.{before_at, stream_at, IsAt, DefinedBefore}
 use Rattle.species_lexer.specs.Tokens.{seen_token}
 
 abbrev pub space_in : Option Piece → ℕ
@@ -42,17 +42,23 @@ abbrev pub IsSolid : Option Piece → Type 0
 IsSolid (Some (piece.Space n)) = ⊥
 IsSolid _ = Unit {0}
 
--- a stop behind some blanks and comments, which changes nothing of the tokens to come
+-- a place behind some blanks and comments, which change nothing of the definitions and the tokens to come
+pub record Passes (text : List ℕ) (start : ℕ) (at : ℕ) (is_head : Bool) : Type 0 where
+  pub forward : start ≤ at
+  pub within : at ≤ length text
+  pub reached : IsAt text at is_head
+  pub definitions : (before_at text at).definitions ≡ (before_at text start).definitions
+  pub same : stream_at text at ≡ stream_at text start
+
+-- a stop behind some blanks and comments
 pub record StopsAt (text : List ℕ) (start : ℕ) (stop : Stop) : Type 0 where
-  pub within : stop.at ≤ length text
-  pub reached : IsAt text stop.at stop.is_head
-  pub same : stream_at text stop.at ≡ stream_at text start
+  pub passes : Passes text start stop.at stop.is_head
   pub piece : option_map seen_piece stop.piece ≡ piece_at stop.is_head (drop stop.at text)
   pub fits : IfSome stop.piece (λ p. Fits p (drop stop.at text))
   pub solid : IsSolid stop.piece
 
--- the next token and the place behind it, or the end, or the refusal
-abbrev pub AnswersAt : List ℕ → ℕ → Result (Option (Token × ℕ)) LexRefusal → Type 0
-AnswersAt text at (Ok (Some x)) = (x.1 ≤ length text) × IsAt text x.1 false × (stream_at text at ≡ put (seen_token x.0) (stream_at text x.1))
+-- the next token and the places behind it and behind the last definition, or the end, or the refusal
+abbrev pub AnswersAt : List ℕ → ℕ → Result (Option Step) LexRefusal → Type 0
+AnswersAt text at (Ok (Some x)) = (x.at ≤ length text) × IsAt text x.at false × DefinedBefore text x.defined x.at × (stream_at text at ≡ put (seen_token x.token) (stream_at text x.at))
 AnswersAt text at (Ok None) = stream_at text at ≡ finished
 AnswersAt text at (Err r) = stream_at text at ≡ refused r

@@ -3,7 +3,7 @@ ghost use Rattle.std.specs.List.{list_any};
 ghost use Rattle.species_ast.specs.Text.Characters.{is_line_feed};
 ghost use Rattle.species_ast.specs.Text.Stream.{look_up, head_behind};
 ghost use Rattle.species_lexer.specs.Pieces.{seen_piece, piece_at, Fits};
-ghost use Rattle.species_lexer.specs.Cursor.{over, before_at, stream_at, IsAt};
+ghost use Rattle.species_lexer.specs.Cursor.{over, before_at, stream_at, IsAt, DefinedBefore};
 ghost use Rattle.species_lexer.specs.Found.{space_in, length_in, definition_in, head_after, kind_of, IsSolid, StopsAt, AnswersAt};
 
 use crate::piece::Piece;
@@ -31,6 +31,14 @@ pub(crate) struct Stop<'a> {
     pub at: usize,
     pub is_head: bool,
     pub piece: Option<Piece<'a>>,
+}
+
+/// A token, the place behind it, and the place behind the last `#define` up to there, 0 if there is none.
+#[derive(Clone, Copy)]
+pub(crate) struct Step<'a> {
+    pub token: Token<'a>,
+    pub at: usize,
+    pub defined: usize,
 }
 
 /// How many bytes a blank, a comment or a skipped directive has, and 0 for everything else.
@@ -98,8 +106,8 @@ fn head_after(piece: Option<Piece>, is_head: bool, bytes: &[u8]) -> bool
     }
 }
 
-/// The literal that a name was given before a place. It goes through the directives before that
-/// place again, so that no table is kept.
+/// The literal that a name was given before a place. It goes through the pieces before that place
+/// again, so that no table is kept.
 fn literal_before(text: &[u8], at: usize, name: &[u8]) -> Option<Value>
     requires short { length text.now ≤ 4194304 }
     requires within { at ≤ length text.now }
@@ -141,18 +149,21 @@ fn kind_before(text: &[u8], at: usize, word: &[u8], kind: TokenKind) -> TokenKin
     }
 }
 
-/// The token that is a piece at a place, and the place behind it.
+/// The token that is a piece at a place. Names are looked up only before `defined`, the place behind
+/// the last definition.
 fn token_at<'a>(
     text: &'a [u8],
     at: usize,
+    defined: usize,
     piece: Piece<'a>,
-) -> Result<Option<(Token<'a>, usize)>, LexRefusal>
+) -> Result<Option<Step<'a>>, LexRefusal>
     requires short { length text.now ≤ 4194304 }
     requires within { at ≤ length text.now }
     requires piece { Some (seen_piece piece) ≡ piece_at (before_at text.now at).is_head (drop at text.now) }
     requires fits { Fits piece (drop at text.now) }
     requires solid { IsSolid (Some piece) }
     requires reached { over text.now 0 at true ≡ Some (before_at text.now at) }
+    requires definitions { DefinedBefore text.now defined at }
     ensures { AnswersAt text.entry.now at result }
 {
     let place = at as u32;
@@ -163,12 +174,16 @@ fn token_at<'a>(
             let token = Token {
                 place,
                 text: word,
-                kind: kind_before(text, at, word, kind),
+                kind: kind_before(text, defined, word, kind),
             };
-            Ok(Some((token, at + n)))
+            Ok(Some(Step {
+                token,
+                at: at + n,
+                defined,
+            }))
         }
         Piece::Define(n, name, value) => {
-            if literal_before(text, at, name).is_some() {
+            if literal_before(text, defined, name).is_some() {
                 return Err(LexRefusal::BadByte(place));
             }
             match value {
@@ -179,27 +194,33 @@ fn token_at<'a>(
                         text: name,
                         kind: TokenKind::Define(literal),
                     };
-                    Ok(Some((token, at + n)))
+                    Ok(Some(Step {
+                        token,
+                        at: at + n,
+                        defined: at + n,
+                    }))
                 }
             }
         }
     }
 }
 
-/// The next token from a place on, and the place behind it.
+/// The next token from a place on, where `defined` is the place behind the last definition.
 pub(crate) fn next_token<'a>(
     text: &'a [u8],
     at: usize,
     is_head: bool,
-) -> Result<Option<(Token<'a>, usize)>, LexRefusal>
+    defined: usize,
+) -> Result<Option<Step<'a>>, LexRefusal>
     requires short { length text.now ≤ 4194304 }
     requires within { at ≤ length text.now }
     requires reached { IsAt text.now at is_head }
+    requires definitions { DefinedBefore text.now defined at }
     ensures { AnswersAt text.entry.now at result }
 {
     let stop = past_spaces(text, at, is_head);
     match stop.piece {
         None => Ok(None),
-        Some(piece) => token_at(text, stop.at, piece),
+        Some(piece) => token_at(text, stop.at, defined, piece),
     }
 }

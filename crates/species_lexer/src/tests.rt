@@ -248,3 +248,39 @@ fn the_end_and_a_refusal_come_again(rt: HostRuntime) {
     assert!(rt; first.is_some());
     assert_eq!(rt; refused.next().err(), first);
 }
+
+/// 64 bytes with 7 tokens, of which the first is the only definition.
+static HEAD: &str = "#define N 64\nint A[N]; /* there is no other definition below */\n";
+
+/// 64 bytes with 20 tokens.
+static BODY: &str = "A[i] = A[i] + N * 3; // next\nx = y - 0x1F; /* N is not in it */\n";
+
+/// How many tokens a text has, if none is refused.
+fn count(text: &[u8]) -> Option<usize> {
+    if text.len() > 4194304 {
+        return None;
+    }
+    let mut tokens = Tokens::new(text);
+    for before in 0..4194304 {
+        match tokens.next() {
+            Ok(Some(_)) => {}
+            Ok(None) => return Some(before),
+            Err(_) => return None,
+        }
+    }
+    None
+}
+
+/// The time that this takes grows with the length of the text: names are looked up only in its first
+/// line.
+#[test]
+fn a_text_of_four_mebibytes_is_cut_at_once(rt: HostRuntime) -> Result<(), Fail> {
+    let mut text = String::new(rt.alloc());
+    text.push_str(HEAD)?;
+    for _ in 0..65535 {
+        text.push_str(BODY)?;
+    }
+    assert_eq!(rt; text.len(), 4194304);
+    assert_eq!(rt; count(text.as_bytes()), Some(7 + 65535 * 20));
+    Ok(())
+}

@@ -13,6 +13,8 @@ pub struct Tokens<'a> {
     text: &'a [u8],
     at: usize,
     is_head: bool,
+    /// The place behind the last `#define`, 0 if there is none: names are looked up only before it.
+    defined: usize,
 }
 
 impl<'a> Model for Tokens<'a> {
@@ -24,7 +26,7 @@ impl<'a> Model for Tokens<'a> {
 
     ghost view = { λ t. stream_at t.text.now t.at };
 
-    ghost invariant = { λ t. IsCursor t.text.now t.at t.is_head };
+    ghost invariant = { λ t. IsCursor t.text.now t.at t.is_head t.defined };
 }
 
 impl<'a> Tokens<'a> {
@@ -39,22 +41,25 @@ impl<'a> Tokens<'a> {
             text: bytes,
             at: 0,
             is_head: true,
+            defined: 0,
         }
     }
 
     /// The next token, or none at the end of the program. A refusal comes again at each later call.
     ///
-    /// The definition of a name is found by going through the directives before it again.
+    /// The definition of a name is found by going again through the text up to the last `#define`
+    /// before it.
     pub fn next(&mut self) -> Result<Option<Token<'a>>, LexRefusal>
         ensures { Gives result self.old self.new }
     {
-        match next_token(self.text, self.at, self.is_head) {
+        match next_token(self.text, self.at, self.is_head, self.defined) {
             Err(refusal) => Err(refusal),
             Ok(None) => Ok(None),
-            Ok(Some((token, behind))) => {
-                self.at = behind;
+            Ok(Some(step)) => {
+                self.at = step.at;
                 self.is_head = false;
-                Ok(Some(token))
+                self.defined = step.defined;
+                Ok(Some(step.token))
             }
         }
     }

@@ -1,9 +1,9 @@
-use Rattle.std.proofs.Common.{◌≡◌, ◌-◌, ◌≤◌, length}
-use Rattle.species_lexer.specs.Cursor.{stream_at, IsAt}
+use Rattle.std.proofs.Common.{◌-◌, length}
+use Rattle.species_lexer.specs.Found.{Passes}
 use Rattle.species_lexer.proofs.scan.past_spaces.Given as goal
 
 abbrev pub invariant-loop-rest : goal.invariant-loop-rest
-invariant-loop-rest l = (l.at ≤ length l.text) × IsAt l.text l.at l.is_head × (stream_at l.text l.at ≡ stream_at l.text l.fn.start)
+invariant-loop-rest l = Passes l.text l.fn.start l.at l.is_head
 
 abbrev pub decreases-loop-rest : goal.decreases-loop-rest
 decreases-loop-rest l = length l.text - l.at
