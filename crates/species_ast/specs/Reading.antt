@@ -26,15 +26,16 @@ abbrev pub IsRefusedByLoad : List ℕ → ℕ → Type 0
 IsRefusedByLoad text place = (ts : List Token) × HasTokens text ts × (load_refusal ts ≡ Some place)
 
 -- the text has tokens, and their load keeps the limit
-abbrev pub IsWithinLoad : List ℕ → Type 0
-IsWithinLoad text = (ts : List Token) × HasTokens text ts × (load_refusal ts ≡ None)
+abbrev pub KeepsLoadLimit : List ℕ → Type 0
+KeepsLoadLimit text = (ts : List Token) × HasTokens text ts × (load_refusal ts ≡ None)
 
+-- the load keeps the limit, and the tokens have a syntax error, which stands there
 abbrev pub IsRefusedByGrammar : List ℕ → ℕ → Type 0
-IsRefusedByGrammar text place = IsWithinLoad text × (ts back : List Token) × HasTokens text ts × SyntaxErrorBefore ts back × (place ≡ place_before (length text) back)
+IsRefusedByGrammar text place = KeepsLoadLimit text × (ts back : List Token) × HasTokens text ts × SyntaxErrorBefore ts back × (place ≡ place_before (length text) back)
 
 -- none of these: the text keeps the limit on load, and it is a program with this tree
 abbrev pub IsAccepted : List ℕ → RawUnit → Type 0
-IsAccepted text u = IsWithinLoad text × Reads text u
+IsAccepted text u = KeepsLoadLimit text × Reads text u
 
 -- what is said of a text
 pub data Verdict : Type 0 where

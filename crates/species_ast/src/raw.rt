@@ -65,8 +65,7 @@ pub struct RawTarget<'a> {
     pub subs: Items<RawExpr<'a>>,
 }
 
-/// A statement. `place` is that of its first token after any pragma, which of a `Declare` is the
-/// first word of its type.
+/// A statement. `place` is where it begins, pragmas aside; a `Declare` begins with its type.
 #[cycle(raw_stmt)]
 #[derive(Drop)]
 pub struct RawStmt<'a> {
@@ -156,7 +155,7 @@ pub enum RawOp {
     Shr,
 }
 
-/// An expression. `place` is that of its first token, which for `Paren` is the bracket.
+/// An expression. `place` is where its first token stands; for `Paren` that is the parenthesis.
 #[cycle(raw_expr)]
 #[derive(Drop)]
 pub struct RawExpr<'a> {

@@ -10,7 +10,7 @@ use Rattle.species_grammar.proofs.Laws.{Reads, bind_read, same_rest}
 pub under_same : {Tok A : Type 0} (r : Reader Tok A) → Under r r
 under_same r ts = inr refl
 
-bind_less : {Tok A B : Type 0} (a b : Answer Tok A) (f g : A → Reader Tok B) → Less a b → ((x : A) (us : List Tok) → Less (f x us) (g x us)) → Less (a >>= f) (b >>= g)
+pub bind_less : {Tok A B : Type 0} (a b : Answer Tok A) (f g : A → Reader Tok B) → Less a b → ((x : A) (us : List Tok) → Less (f x us) (g x us)) → Less (a >>= f) (b >>= g)
 bind_less a b f g (inl e) h = inl (ap (λ z. z >>= f) e)
 bind_less (Answer.read x us) b f g (inr e) h = subst (λ z. Less (f x us) (z >>= g)) e (h x us)
 bind_less (Answer.stuck us) b f g (inr e) h = inr (ap (λ z. z >>= g) e)
@@ -49,7 +49,7 @@ until_under (suc m) w r r' h = choose_under (is_of w) _ _ _ _ (under_same (skip 
 pub level_under : {Tok A O : Type 0} (g : A → O → A → A) (m : ℕ) (c : Tok → Bool) (o : Reader Tok O) (r r' : Reader Tok A) → Under r r' → Under (level g m c o r) (level g (suc m) c o r')
 level_under g m c o r r' h = mapped_under (λ p. joined g p.0 p.1) _ _ (both_under _ _ _ _ h (many_under m c _ _ (both_under _ _ _ _ (under_same o) h)))
 
-less_on : {Tok A : Type 0} (a b c : Answer Tok A) → Less a b → Less b c → Less a c
+pub less_on : {Tok A : Type 0} (a b c : Answer Tok A) → Less a b → Less b c → Less a c
 less_on a b c (inl e) h = inl e
 less_on a b c (inr e) (inl d) = inl (e ∙ d)
 less_on a b c (inr e) (inr d) = inr (e ∙ d)
@@ -199,6 +199,13 @@ until_enough (suc m) w r k h =
     let le : m ≤ suc m = omega arith in
     choose_enough (is_of w) _ _ (suc m) (skip_enough w (nothing []) m (nothing_enough [] m))
     (mapped_enough cons_of _ (suc m) (both_enough r (until m w r) 1 (suc m) m k h (until_enough m w r k (fewer_enough r (suc m) m le h)) l))
+
+pub many_takes : {Tok A : Type 0} (m : ℕ) (c : Tok → Bool) (r : Reader Tok A) → Takes r 0 → Takes (many m c r) 0
+many_takes zero c r h = λ ts x rest d. cc
+many_takes (suc m) c r h = choose_takes c _ _ 0 (mapped_takes cons_of _ 0 (both_takes r (many m c r) 0 0 h (many_takes m c r h))) (nothing_takes [])
+
+pub level_takes : {Tok A O : Type 0} (g : A → O → A → A) (m : ℕ) (c : Tok → Bool) (o : Reader Tok O) (r : Reader Tok A) → Takes o 0 → Takes r 1 → Takes (level g m c o r) 1
+level_takes g m c o r k h = mapped_takes (λ p. joined g p.0 p.1) _ 1 (both_takes r (many m c (both o r)) 1 0 h (many_takes m c (both o r) (both_takes o r 0 0 k (fewer_takes r 1 h))))
 
 pub level_enough : {Tok A O : Type 0} (g : A → O → A → A) (m : ℕ) (c : Tok → Bool) (o : Reader Tok O) (r : Reader Tok A) → Takes o 1 → Enough o m → Takes r 1 → Enough r m → Enough (level g m c o r) m
 level_enough {Tok} {A} {O} g m c o r ko ho k h =

@@ -67,6 +67,11 @@ Enough {Tok} r n = (ts : List Tok) → length ts < n → r ts ≡ Answer.shallow
 abbrev pub Takes : {Tok A : Type 0} → Reader Tok A → ℕ → Type 0
 Takes {Tok} {A} r k = (ts : List Tok) (x : A) (rest : List Tok) → r ts ≡ Answer.read x rest → k + length rest ≤ length ts
 
+-- A reader that no depth bounds, of things of at least one token.
+pub record Advances {Tok A : Type 0} (r : Reader Tok A) : Type 0 where
+  pub takes : Takes r 1
+  pub never : (ts : List Tok) → r ts ≡ Answer.shallow → ⊥
+
 -- ---- what the combinators read, in these words
 
 abbrev pub plain : {Tok A : Type 0} → Spelled Tok A → Before Tok A

@@ -1,5 +1,5 @@
 -- Readers of lists of tokens, and how they are put together.
-use Rattle.std.specs.Prelude.{ℕ, zero, suc, List, [], ◌∷◌, Option, Some, None, Bool, false, is_some, if◌then◌else◌}
+use Rattle.std.specs.Prelude.{ℕ, zero, suc, List, [], ◌∷◌, ◌++◌, length, Option, Some, None, Bool, false, is_some, if◌then◌else◌}
 
 -- What a reader answers: a value and the tokens after those that it is read from; or the tokens at which it
 -- stopped, since no value goes on with the first of them; or that it was given too little depth to tell.
@@ -52,6 +52,10 @@ nothing x ts = Answer.read x ts
 abbrev pub both : {Tok A B : Type 0} → Reader Tok A → Reader Tok B → Reader Tok (A × B)
 both r q ts = r ts >>= (λ x us. q us >>= (λ y rest. Answer.read (x, y) rest))
 
+-- what r reads, and after it what its value says
+abbrev pub bound : {Tok A B : Type 0} → Reader Tok A → (A → Reader Tok B) → Reader Tok B
+bound r f ts = r ts >>= f
+
 -- what r reads, made into another value
 abbrev pub mapped : {Tok A B : Type 0} → (A → B) → Reader Tok A → Reader Tok B
 mapped f r ts = r ts >>= (λ x rest. Answer.read (f x) rest)
@@ -101,3 +105,25 @@ joined g x (p ∷ ps) = joined g (g x p.0 p.1) ps
 -- one level of binary operators, from left to right: o reads an operator, r an operand
 abbrev pub level : {Tok A O : Type 0} → (A → O → A → A) → ℕ → (Tok → Bool) → Reader Tok O → Reader Tok A → Reader Tok A
 level g m c o r = mapped (λ p. joined g p.0 p.1) (both r (many m c (both o r)))
+
+-- ---- readers that no depth bounds
+
+-- a reader of each depth, at one above the number of tokens
+abbrev pub deep : {Tok A : Type 0} → (ℕ → Reader Tok A) → Reader Tok A
+deep at ts = at (suc (length ts)) ts
+
+-- `many`, as often as it goes
+unfoldable pub repeated : {Tok A : Type 0} → (Tok → Bool) → Reader Tok A → Reader Tok (List A)
+repeated c r = deep (λ m. many m c r)
+
+-- `until`, however many there are
+unfoldable pub closed : {Tok A B : Type 0} → Word Tok A → Reader Tok B → Reader Tok (List B)
+closed w r = deep (λ m. until m w r)
+
+-- the pairs of an operator and an operand that follow an operand, joined to it from left to right
+unfoldable pub level_tail : {Tok A O : Type 0} → (A → O → A → A) → (Tok → Bool) → Reader Tok O → Reader Tok A → A → Reader Tok A
+level_tail g c o r x = mapped (joined g x) (repeated c (both o r))
+
+-- what was read before a list, and the list
+abbrev pub prepended : {Tok A : Type 0} → List A → Answer Tok (List A) → Answer Tok (List A)
+prepended xs a = a >>= (λ ys rest. Answer.read (xs ++ ys) rest)

@@ -1,10 +1,11 @@
 pub mod Words
-pub mod Expressions
+pub mod ExpressionLaws
 pub mod Operands
-pub mod Declarations
-pub mod Headers
-pub mod Statements
-pub mod Units
+pub mod DeclarationLaws
+pub mod HeaderLaws
+pub mod StatementLaws
+pub mod UnitLaws
+pub mod Parts
 pub mod Depth
 pub mod Whole
 pub mod Enough
@@ -12,3 +13,10 @@ pub mod Examples
 pub mod Refusals
 pub mod Places
 pub mod Reading
+pub mod Forms
+pub mod Loops
+pub mod Levels
+pub mod UnitTurns
+pub mod Listing
+pub mod Loads
+pub mod Answering

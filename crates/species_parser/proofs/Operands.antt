@@ -15,21 +15,21 @@ use Rattle.species_ast.specs.declared.raw.RawExpr.{RawExpr}
 use Rattle.species_ast.specs.declared.raw.RawTerm.{RawTerm}
 use Rattle.species_ast.specs.declared.raw.RawTerm.TheVariants as term
 use Rattle.species_ast.specs.declared.raw.RawTarget.{RawTarget}
-use Rattle.species_parser.specs.Words.{the_mark, unary_operators, names, numbers, is_mark, is_type, goes_on}
+use Rattle.species_parser.specs.Words.{the_punctuator, unary_operators, names, numbers, is_the_punctuator, is_type, goes_on}
 use Rattle.species_parser.specs.Reading.{type_reader, number_of, element_of, unary_of, cast_of, opened_of, choice_of, subscript_reader, subscripts_reader, opened_reader, operand_reader, level_reader, binary_reader, choice_reader, operand_at, expression_at, product_at, subscripts_at, target_of, target_at}
-use Rattle.species_parser.proofs.Words.{mark_is_word, unary_is_word, name_is_word, number_is_word}
-use Rattle.species_parser.proofs.Expressions.{TypeSpelled, TypeBefore, type_lawful, some_type, ExprBefore, ExprLaw, level_law, then_no_bracket, then_higher, then_no_question}
+use Rattle.species_parser.proofs.Words.{punctuator_is_word, unary_is_word, name_is_word, number_is_word}
+use Rattle.species_parser.proofs.ExpressionLaws.{TypeSpelled, TypeBefore, type_lawful, some_type, ExprBefore, ExprLaw, level_law, then_no_bracket, then_higher, then_no_question}
 
 -- ---- subscripts
 
 abbrev pub SubsBefore : ℕ → Before Token (List RawExpr)
-SubsBefore m xs front rest = Subscripts xs front × (length front < m) × (starts (is_mark "[") rest ≡ false)
+SubsBefore m xs front rest = Subscripts xs front × (length front < m) × (starts (is_the_punctuator "[") rest ≡ false)
 
 abbrev pub SubscriptSpelled : Spelled Token RawExpr
-SubscriptSpelled = skip_spelled (the_mark "[") (ends_spelled (Expression 0) (the_mark "]"))
+SubscriptSpelled = skip_spelled (the_punctuator "[") (ends_spelled (Expression 0) (the_punctuator "]"))
 
 abbrev pub SubscriptBefore : ℕ → Before Token RawExpr
-SubscriptBefore m = skip_before (the_mark "[") (ends_before (ExprBefore m 0) (the_mark "]"))
+SubscriptBefore m = skip_before (the_punctuator "[") (ends_before (ExprBefore m 0) (the_punctuator "]"))
 
 pub subs_viable : (xs : List RawExpr) (front : List Token) → many_spelled SubscriptSpelled xs front → Subscripts xs front
 subs_viable [] front h = subst (Subscripts []) (sym h) Subscripts.none
@@ -40,7 +40,7 @@ subs_short : (us : List Token) (ys : List RawExpr) → Subscripts ys us → leng
 subs_short us ys Subscripts.none = omega arith
 subs_short us ys (Subscripts.more p q x ys' ts us' d s) = let ih = subs_short us' ys' s in let l = length-append (ts ++ punctuator q "]" ∷ []) us' in omega (arith, ih, l)
 
-pub subs_full : (m : ℕ) (xs : List RawExpr) (front rest : List Token) → Subscripts xs front → length front < m → starts (is_mark "[") rest ≡ false → Short m (many_before (is_mark "[") (SubscriptBefore m)) xs front rest
+pub subs_full : (m : ℕ) (xs : List RawExpr) (front rest : List Token) → Subscripts xs front → length front < m → starts (is_the_punctuator "[") rest ≡ false → Short m (many_before (is_the_punctuator "[") (SubscriptBefore m)) xs front rest
 subs_full m xs front rest Subscripts.none lt h = (lt, (refl, h))
 subs_full m xs front rest (Subscripts.more p q x ys ts us d s) lt h =
     let l0 = length-append (ts ++ punctuator q "]" ∷ []) us in
@@ -53,13 +53,13 @@ subs_full m xs front rest (Subscripts.more p q x ys ts us d s) lt h =
     (short, (punctuator p "[" ∷ (ts ++ punctuator q "]" ∷ []), us, refl, (p, ts ++ punctuator q "]" ∷ [], refl, (q, ts, refl, (d, lx, refl))), more.1))
 
 module _ (m : ℕ) (e : Reader Token RawExpr) (l : ExprLaw m 0 e) where
-  pub subscript_law : Lawful (subscript_reader e) (skip_before (the_mark "[") (ends_before (plain (Expression 0)) (the_mark "]"))) (SubscriptBefore m) SubscriptSpelled
-  subscript_law = skip_lawful (the_mark "[") (mark_is_word "[") (ends e (the_mark "]")) _ _ _ (ends_lawful e (the_mark "]") (mark_is_word "]") _ _ _ l)
+  pub subscript_law : Lawful (subscript_reader e) (skip_before (the_punctuator "[") (ends_before (plain (Expression 0)) (the_punctuator "]"))) (SubscriptBefore m) SubscriptSpelled
+  subscript_law = skip_lawful (the_punctuator "[") (punctuator_is_word "[") (ends e (the_punctuator "]")) _ _ _ (ends_lawful e (the_punctuator "]") (punctuator_is_word "]") _ _ _ l)
 
   pub subs_law : Lawful (subscripts_reader m e) (plain Subscripts) (SubsBefore m) Subscripts
   subs_law =
       recast_plain (subscripts_reader m e) _ _ (SubsBefore m) _ Subscripts
-      (many_lawful (subscript_reader e) (is_mark "[") _ _ _ subscript_law (λ x a rest h. ap (λ z. starts (is_mark "[") (z ++ rest)) h.2) m)
+      (many_lawful (subscript_reader e) (is_the_punctuator "[") _ _ _ subscript_law (λ x a rest h. ap (λ z. starts (is_the_punctuator "[") (z ++ rest)) h.2) m)
       (λ xs front rest h. subs_full m xs front rest h.0 h.1 h.2)
       subs_viable
 
@@ -135,30 +135,30 @@ no_type n x ts rest (Expression.higher m y ys d) = no_type (suc m) y ys rest d
 
 module _ (n : ℕ) (u e : Reader Token RawExpr) (lu : ExprLaw n 11 u) (le : ExprLaw n 0 e) where
   abbrev OpenedV : Spelled Token RawTerm
-  OpenedV = choose_spelled (mapped_spelled cast_of (both_spelled (ends_spelled TypeSpelled (the_mark ")")) (Expression 11))) (mapped_spelled term.Paren (ends_spelled (Expression 0) (the_mark ")")))
+  OpenedV = choose_spelled (mapped_spelled cast_of (both_spelled (ends_spelled TypeSpelled (the_punctuator ")")) (Expression 11))) (mapped_spelled term.Paren (ends_spelled (Expression 0) (the_punctuator ")")))
 
   abbrev OpenedS : Before Token RawTerm
-  OpenedS = choose_before is_type (mapped_before cast_of (both_before (ends_before (plain TypeSpelled) (the_mark ")")) (plain (Expression 11)))) (mapped_before term.Paren (ends_before (plain (Expression 0)) (the_mark ")")))
+  OpenedS = choose_before is_type (mapped_before cast_of (both_before (ends_before (plain TypeSpelled) (the_punctuator ")")) (plain (Expression 11)))) (mapped_before term.Paren (ends_before (plain (Expression 0)) (the_punctuator ")")))
 
   abbrev OpenedF : Before Token RawTerm
-  OpenedF = choose_before is_type (mapped_before cast_of (both_before (ends_before TypeBefore (the_mark ")")) (ExprBefore n 11))) (mapped_before term.Paren (ends_before (ExprBefore n 0) (the_mark ")")))
+  OpenedF = choose_before is_type (mapped_before cast_of (both_before (ends_before TypeBefore (the_punctuator ")")) (ExprBefore n 11))) (mapped_before term.Paren (ends_before (ExprBefore n 0) (the_punctuator ")")))
 
   opened_law : Lawful (opened_reader u e) OpenedS OpenedF OpenedV
   opened_law =
-      choose_lawful is_type (mapped cast_of (both (ends type_reader (the_mark ")")) u)) (mapped term.Paren (ends e (the_mark ")"))) _ _ _ _ _ _
-      (mapped_lawful cast_of (both (ends type_reader (the_mark ")")) u) _ _ _ (both_lawful (ends type_reader (the_mark ")")) u _ _ _ _ _ _ (ends_lawful type_reader (the_mark ")") (mark_is_word ")") _ _ _ type_lawful) lu))
-      (mapped_lawful term.Paren (ends e (the_mark ")")) _ _ _ (ends_lawful e (the_mark ")") (mark_is_word ")") _ _ _ le))
+      choose_lawful is_type (mapped cast_of (both (ends type_reader (the_punctuator ")")) u)) (mapped term.Paren (ends e (the_punctuator ")"))) _ _ _ _ _ _
+      (mapped_lawful cast_of (both (ends type_reader (the_punctuator ")")) u) _ _ _ (both_lawful (ends type_reader (the_punctuator ")")) u _ _ _ _ _ _ (ends_lawful type_reader (the_punctuator ")") (punctuator_is_word ")") _ _ _ type_lawful) lu))
+      (mapped_lawful term.Paren (ends e (the_punctuator ")")) _ _ _ (ends_lawful e (the_punctuator ")") (punctuator_is_word ")") _ _ _ le))
 
   abbrev OperandV : Spelled Token RawExpr
   OperandV = choose_spelled (mapped_spelled number_of (word_spelled numbers))
       (choose_spelled (mapped_spelled unary_of (both_spelled (word_spelled unary_operators) (Expression 11)))
-      (choose_spelled (mapped_spelled opened_of (both_spelled (word_spelled (the_mark "(")) OpenedV))
+      (choose_spelled (mapped_spelled opened_of (both_spelled (word_spelled (the_punctuator "(")) OpenedV))
       (mapped_spelled element_of (both_spelled (word_spelled names) Subscripts))))
 
   abbrev OperandF : Before Token RawExpr
   OperandF = choose_before (is_of numbers) (mapped_before number_of (plain (word_spelled numbers)))
       (choose_before (is_of unary_operators) (mapped_before unary_of (both_before (plain (word_spelled unary_operators)) (ExprBefore n 11)))
-      (choose_before (is_mark "(") (mapped_before opened_of (both_before (plain (word_spelled (the_mark "("))) OpenedF))
+      (choose_before (is_the_punctuator "(") (mapped_before opened_of (both_before (plain (word_spelled (the_punctuator "("))) OpenedF))
       (mapped_before element_of (both_before (plain (word_spelled names)) (SubsBefore n)))))
 
   cast_is : (p q : ℕ) (c : (ℕ × Kind) × RawExpr) (front a b f g ks : List Token) → front ≡ a ++ b → a ≡ punctuator p "(" ∷ [] → b ≡ f ++ g → f ≡ ks ++ punctuator q ")" ∷ [] → TypeSpelled c.0 ks → Expression 11 c.1 g → Expression 11 (expression p (cast_of c)) front
@@ -240,12 +240,12 @@ module _ (n : ℕ) (u e : Reader Token RawExpr) (lu : ExprLaw n 11 u) (le : Expr
   pub operand_law : ExprLaw (suc n) 11 (operand_reader n u e)
   operand_law =
       recast_plain (operand_reader n u e) _ _ (ExprBefore (suc n) 11) _ (Expression 11)
-      (choose_lawful (is_of numbers) (mapped number_of (word numbers)) (choose (is_of unary_operators) (mapped unary_of (both (word unary_operators) u)) (choose (is_mark "(") (mapped opened_of (both (word (the_mark "(")) (opened_reader u e))) (mapped element_of (both (word names) (subscripts_reader n e))))) _ _ _ _ _ _
+      (choose_lawful (is_of numbers) (mapped number_of (word numbers)) (choose (is_of unary_operators) (mapped unary_of (both (word unary_operators) u)) (choose (is_the_punctuator "(") (mapped opened_of (both (word (the_punctuator "(")) (opened_reader u e))) (mapped element_of (both (word names) (subscripts_reader n e))))) _ _ _ _ _ _
       (mapped_lawful number_of (word numbers) _ _ _ (word_lawful numbers number_is_word))
-      (choose_lawful (is_of unary_operators) (mapped unary_of (both (word unary_operators) u)) (choose (is_mark "(") (mapped opened_of (both (word (the_mark "(")) (opened_reader u e))) (mapped element_of (both (word names) (subscripts_reader n e)))) _ _ _ _ _ _
+      (choose_lawful (is_of unary_operators) (mapped unary_of (both (word unary_operators) u)) (choose (is_the_punctuator "(") (mapped opened_of (both (word (the_punctuator "(")) (opened_reader u e))) (mapped element_of (both (word names) (subscripts_reader n e)))) _ _ _ _ _ _
       (mapped_lawful unary_of (both (word unary_operators) u) _ _ _ (both_lawful (word unary_operators) u _ _ _ _ _ _ (word_lawful unary_operators unary_is_word) lu))
-      (choose_lawful (is_mark "(") (mapped opened_of (both (word (the_mark "(")) (opened_reader u e))) (mapped element_of (both (word names) (subscripts_reader n e))) _ _ _ _ _ _
-      (mapped_lawful opened_of (both (word (the_mark "(")) (opened_reader u e)) _ _ _ (both_lawful (word (the_mark "(")) (opened_reader u e) _ _ _ _ _ _ (word_lawful (the_mark "(") (mark_is_word "(")) opened_law))
+      (choose_lawful (is_the_punctuator "(") (mapped opened_of (both (word (the_punctuator "(")) (opened_reader u e))) (mapped element_of (both (word names) (subscripts_reader n e))) _ _ _ _ _ _
+      (mapped_lawful opened_of (both (word (the_punctuator "(")) (opened_reader u e)) _ _ _ (both_lawful (word (the_punctuator "(")) (opened_reader u e) _ _ _ _ _ _ (word_lawful (the_punctuator "(") (punctuator_is_word "(")) opened_law))
       (mapped_lawful element_of (both (word names) (subscripts_reader n e)) _ _ _ (both_lawful (word names) (subscripts_reader n e) _ _ _ _ _ _ (word_lawful names name_is_word) (subs_law n e le))))))
       (λ x front rest h. operand_full x front rest (eleven x front h.0) h.1 h.2)
       operand_viable
@@ -280,19 +280,19 @@ choice_from n x ts (Expression.higher m y ys d) i = Choice.plain_one y ys (subst
 
 module _ (n : ℕ) (u e : Reader Token RawExpr) (lu : ExprLaw (suc n) 11 u) (le : ExprLaw n 0 e) where
   abbrev ArmsV : Spelled Token (RawExpr × RawExpr)
-  ArmsV = both_spelled (Expression 0) (skip_spelled (the_mark ":") (Expression 0))
+  ArmsV = both_spelled (Expression 0) (skip_spelled (the_punctuator ":") (Expression 0))
 
   abbrev ArmsF : Before Token (RawExpr × RawExpr)
-  ArmsF = both_before (ExprBefore n 0) (skip_before (the_mark ":") (ExprBefore n 0))
+  ArmsF = both_before (ExprBefore n 0) (skip_before (the_punctuator ":") (ExprBefore n 0))
 
-  choice_viable : (x : RawExpr) (front : List Token) → mapped_spelled choice_of (both_spelled (Expression 1) (maybe_spelled (the_mark "?") ArmsV)) x front → Expression 0 x front
+  choice_viable : (x : RawExpr) (front : List Token) → mapped_spelled choice_of (both_spelled (Expression 1) (maybe_spelled (the_punctuator "?") ArmsV)) x front → Expression 0 x front
   choice_viable x front ((c, None), y, (a, b, i, d, j)) =
       subst (λ z. Expression 0 z front) y (subst (Expression 0 c) (sym (i ∙ ap (λ z. a ++ z) j ∙ append-nil a)) (Expression.higher 0 c a d))
   choice_viable x front ((c, Some s), y, (a, b, i, d, (p, b', j, (xs, r, k, xd, (q, ys, m, yd))))) =
       subst (λ z. Expression 0 z front) y
       (subst (Expression 0 (choice_of (c, Some s))) (sym (i ∙ ap (λ z. a ++ z) (j ∙ ap (λ z. punctuator p "?" ∷ z) (k ∙ ap (λ z. xs ++ z) m)))) (Expression.conditional p q c s.0 s.1 a xs ys d xd yd))
 
-  choice_full : (x : RawExpr) (front rest : List Token) → Choice x front → length front < suc n → starts (goes_on 0) rest ≡ false → mapped_before choice_of (both_before (ExprBefore (suc n) 1) (maybe_before (the_mark "?") ArmsF)) x front rest
+  choice_full : (x : RawExpr) (front rest : List Token) → Choice x front → length front < suc n → starts (goes_on 0) rest ≡ false → mapped_before choice_of (both_before (ExprBefore (suc n) 1) (maybe_before (the_punctuator "?") ArmsF)) x front rest
   choice_full x front rest (Choice.plain_one y ys d) lt h = ((y, None), refl, (front, [], sym (append-nil front), (d, lt, then_higher 0 rest h), (refl, then_no_question rest h)))
   choice_full x front rest (Choice.choice p q c y z cs ys zs d yd zd) lt h =
       let l0 = length-append cs (punctuator p "?" ∷ (ys ++ (punctuator q ":" ∷ zs))) in
@@ -305,9 +305,9 @@ module _ (n : ℕ) (u e : Reader Token RawExpr) (lu : ExprLaw (suc n) 11 u) (le 
   pub choice_law : ExprLaw (suc n) 0 (choice_reader (suc n) u e)
   choice_law =
       recast_plain (choice_reader (suc n) u e) _ _ (ExprBefore (suc n) 0) _ (Expression 0)
-      (mapped_lawful choice_of (both (binary_reader (suc n) u) (maybe (the_mark "?") (both e (skip (the_mark ":") e)))) _ _ _
-      (both_lawful (binary_reader (suc n) u) (maybe (the_mark "?") (both e (skip (the_mark ":") e))) _ _ _ _ _ _ (binary_law (suc n) u lu)
-      (maybe_lawful (the_mark "?") (mark_is_word "?") (both e (skip (the_mark ":") e)) _ _ _ (both_lawful e (skip (the_mark ":") e) _ _ _ _ _ _ le (skip_lawful (the_mark ":") (mark_is_word ":") e _ _ _ le)))))
+      (mapped_lawful choice_of (both (binary_reader (suc n) u) (maybe (the_punctuator "?") (both e (skip (the_punctuator ":") e)))) _ _ _
+      (both_lawful (binary_reader (suc n) u) (maybe (the_punctuator "?") (both e (skip (the_punctuator ":") e))) _ _ _ _ _ _ (binary_law (suc n) u lu)
+      (maybe_lawful (the_punctuator "?") (punctuator_is_word "?") (both e (skip (the_punctuator ":") e)) _ _ _ (both_lawful e (skip (the_punctuator ":") e) _ _ _ _ _ _ le (skip_lawful (the_punctuator ":") (punctuator_is_word ":") e _ _ _ le)))))
       (λ x front rest h. choice_full x front rest (choice_from 0 x front h.0 refl) h.1 h.2)
       choice_viable
 
@@ -351,9 +351,9 @@ subscripts_lawful n = subs_law n (expression_at n) (expression_lawful n)
 -- ---- targets
 
 abbrev pub TargetBefore : ℕ → Before Token RawTarget
-TargetBefore n t front rest = Target t front × (length front < suc n) × (starts (is_mark "[") rest ≡ false)
+TargetBefore n t front rest = Target t front × (length front < suc n) × (starts (is_the_punctuator "[") rest ≡ false)
 
-target_full : (n : ℕ) (t : RawTarget) (front rest : List Token) → Target t front → length front < suc n → starts (is_mark "[") rest ≡ false → mapped_before target_of (both_before (plain (word_spelled names)) (SubsBefore n)) t front rest
+target_full : (n : ℕ) (t : RawTarget) (front rest : List Token) → Target t front → length front < suc n → starts (is_the_punctuator "[") rest ≡ false → mapped_before target_of (both_before (plain (word_spelled names)) (SubsBefore n)) t front rest
 target_full n t front rest (Target.element m subs ts s) lt h = let len : length ts < n = omega (arith, lt) in ((m, subs), refl, (name m ∷ [], ts, refl, refl, (s, len, h)))
 
 pub target_lawful : (n : ℕ) → Lawful (target_at n) (plain Target) (TargetBefore n) Target

@@ -5,7 +5,7 @@ use Rattle.species_ast.specs.Text.Stream.{TokenStream, IsCut, stream_of, grammar
 use Rattle.species_ast.specs.Text.Load.{load_refusal}
 use Rattle.species_ast.specs.Grammar.Units.{Derives, SyntaxErrorBefore, place_before}
 use Rattle.species_ast.specs.Grammar.Law.{DerivesOrErrs}
-use Rattle.species_ast.specs.Reading.{HasTokens, IsWithinLoad, Verdict, IsVerdict, ReadsOneWay}
+use Rattle.species_ast.specs.Reading.{HasTokens, KeepsLoadLimit, Verdict, IsVerdict, ReadsOneWay}
 use Rattle.species_ast.specs.declared.token.LexRefusal.{LexRefusal}
 use Rattle.species_ast.proofs.Cutting.{cuts_one_way}
 use Rattle.species_parser.proofs.Whole.{one_unit, one_place, derives_or_errs}
@@ -28,7 +28,7 @@ one_refusal : (text : List ℕ) (r q : LexRefusal) → IsVerdict text (Verdict.r
 one_refusal text r q (s, c, h) (t, d, k) = same_some s.refusal r q h (ap (λ z. z.refusal) (cuts_one_way.at_most_one text s t c d) ∙ k)
 
 -- a text whose load passes the limit does not keep it
-not_light : (text : List ℕ) (p : ℕ) → IsVerdict text (Verdict.refused_load p) → IsWithinLoad text → ⊥
+not_light : (text : List ℕ) (p : ℕ) → IsVerdict text (Verdict.refused_load p) → KeepsLoadLimit text → ⊥
 not_light text p (us, k, m) (ts, h, l) = some_none (load_refusal us) p m (ap load_refusal (sym (one_list text ts us h k)) ∙ l)
 
 at_most_one : (text : List ℕ) (v w : Verdict) → IsVerdict text v → IsVerdict text w → v ≡ w
@@ -60,7 +60,7 @@ at_least_one text = go s.refusal refl (load_refusal (grammar_tokens s.tokens)) r
     cut : IsCut text s
     cut = cuts_one_way.at_least_one text
 
-    light : s.refusal ≡ None → load_refusal (grammar_tokens s.tokens) ≡ None → IsWithinLoad text
+    light : s.refusal ≡ None → load_refusal (grammar_tokens s.tokens) ≡ None → KeepsLoadLimit text
     light e f = (grammar_tokens s.tokens, (s, cut, e, refl), f)
 
     go : (o : Option LexRefusal) → s.refusal ≡ o → (l : Option ℕ) → load_refusal (grammar_tokens s.tokens) ≡ l → DerivesOrErrs (grammar_tokens s.tokens) → (v : Verdict) × IsVerdict text v

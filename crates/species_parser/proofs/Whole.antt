@@ -9,7 +9,7 @@ use Rattle.species_ast.specs.Grammar.Units.{TranslationUnit, Derives, SyntaxErro
 use Rattle.species_ast.specs.Grammar.Law.{DerivesOrErrs, DerivesOneWay}
 use Rattle.species_ast.specs.declared.raw.RawUnit.{RawUnit}
 use Rattle.species_parser.specs.Reading.{unit_at}
-use Rattle.species_parser.proofs.Units.{UnitBefore, unit_lawful}
+use Rattle.species_parser.proofs.UnitLaws.{UnitBefore, unit_lawful}
 use Rattle.species_parser.proofs.Depth.{unit_under}
 use Rattle.species_parser.proofs.Enough.{unit_enough}
 

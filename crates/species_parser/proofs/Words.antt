@@ -24,7 +24,7 @@ use Rattle.species_ast.specs.declared.raw.RawUnary.{RawUnary}
 use Rattle.species_ast.specs.declared.raw.RawUnary.TheVariants as unary
 use Rattle.species_ast.specs.declared.raw.RawOp.{RawOp}
 use Rattle.species_ast.specs.declared.raw.RawOp.TheVariants as op
-use Rattle.species_parser.specs.Words.{is_punctuator, is_keyword, when, spelling_of, the_mark, the_keyword, find_sign, placed, one_of, all_unary, unary_operators, all_operations, binary_operators, of_level, operators_at, all_assignments, assignment_operators, all_tests, tests, name_in, names, number_in, numbers, include_in, includes, species_in, species_lines, parallel_in, parallel_lines, atomic_in, atomic_lines, is_mark}
+use Rattle.species_parser.specs.Words.{is_punctuator, is_keyword, when, spelling_of, the_punctuator, the_keyword, find_sign, placed, one_of, all_unary, unary_operators, all_operations, binary_operators, of_level, operators_at, all_assignments, assignment_operators, all_tests, tests, name_in, names, number_in, numbers, include_in, includes, species_in, species_lines, parallel_in, parallel_lines, atomic_in, atomic_lines, is_the_punctuator}
 
 token_is : (t : Token) (p : ℕ) (s : List ℕ) (k : TokenKind) → t.place ≡ p → t.text ≡ s → t.kind ≡ k → t ≡ record { place = p; text = s; kind = k }
 token_is t p s k e f g = ap (λ z. record { place = z; text = t.text; kind = t.kind }) e ∙ ap (λ z. record { place = p; text = z; kind = t.kind }) f ∙ ap (λ z. record { place = p; text = s; kind = z }) g
@@ -47,8 +47,8 @@ when_is true true x y h = (refl, refl, cc)
 when_is true false x y h = cc
 when_is false c x y h = cc
 
-pub mark_is_word : (s : String) → IsWord (the_mark s)
-mark_is_word s = record {
+pub punctuator_is_word : (s : String) → IsWord (the_punctuator s)
+punctuator_is_word s = record {
   is = λ t p h.
       let e = when_is (is_punctuator t.kind) (bytes_eq t.text (codes s)) t.place p h in
       token_is t p (codes s) token.Punct e.2 ((bytes_eq-Decides t.text (codes s)).0 e.1) (punctuator_is t.kind e.0);
@@ -241,9 +241,9 @@ none_some : {A : Type 0} (x : A) → None ≡ Some x → ⊥
 none_some x h = cc
 
 -- a token of a class that the punctuator is not of is not the punctuator
-pub mark_apart : {A : Type 0} (w : Word Token A) (s : String) (t : Token) (x : A) → w.says t ≡ Some x → ((q : ℕ) → w.says (punctuator q s) ≡ None) → is_mark s t ≡ false
+pub mark_apart : {A : Type 0} (w : Word Token A) (s : String) (t : Token) (x : A) → w.says t ≡ Some x → ((q : ℕ) → w.says (punctuator q s) ≡ None) → is_the_punctuator s t ≡ false
 mark_apart w s t x h off =
-    never (is_mark s t) (λ e.
-    let k = is_some_in ((the_mark s).says t) e in
-    let i = (mark_is_word s).is t k.0 k.1 in
+    never (is_the_punctuator s t) (λ e.
+    let k = is_some_in ((the_punctuator s).says t) e in
+    let i = (punctuator_is_word s).is t k.0 k.1 in
     none_some x (sym (off k.0) ∙ ap w.says (sym i) ∙ h))

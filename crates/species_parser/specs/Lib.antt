@@ -1,3 +1,11 @@
 pub mod Words
 pub mod Reading
 pub mod Places
+pub mod Given
+pub mod Parsing
+pub mod Operators
+pub mod Headers
+pub mod Listed
+pub mod Loaded
+pub mod Parsed
+pub mod Finished

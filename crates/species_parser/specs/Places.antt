@@ -5,6 +5,7 @@ use Rattle.species_ast.specs.declared.raw.RawStmt.{RawStmt, out-RawStmt}
 use Rattle.species_ast.specs.declared.token.TokenKind.{TokenKind}
 use Rattle.species_ast.specs.declared.token.TokenKind.TheVariants as token
 
+-- the list has a first token, which stands there
 abbrev pub StartsAt : ℕ → List Token → Type 0
 StartsAt p [] = ⊥
 StartsAt p (t ∷ ts) = t.place ≡ p
@@ -20,5 +21,6 @@ abbrev pub after_pragmas : List Token → List Token
 after_pragmas [] = []
 after_pragmas (t ∷ ts) = after_pragma t.kind t ts (after_pragmas ts)
 
+-- the place that a statement keeps
 abbrev pub statement_place_of : RawStmt → ℕ
 statement_place_of s = (out-RawStmt s).place

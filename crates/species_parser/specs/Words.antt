@@ -4,7 +4,7 @@ use Prim.Native.String.{String}
 use Rattle.species_grammar.specs.Reader.{Word, is_of}
 use Rattle.species_ast.specs.Token.{Token}
 use Rattle.species_ast.specs.Spelling.{Spelling}
-use Rattle.species_ast.specs.Grammar.Words.{punctuator, keyword, name, number, include, species, parallel, atomic}
+use Rattle.species_ast.specs.Grammar.Words.{punctuator, name, number, include, species, parallel, atomic}
 use Rattle.species_ast.specs.Grammar.Expressions.{Operation, binary_sign, unary_sign, level_of}
 use Rattle.species_ast.specs.Grammar.Statements.{assignment_sign, test_sign}
 use Rattle.species_ast.specs.declared.token.TokenKind.{TokenKind}
@@ -19,6 +19,7 @@ use Rattle.species_ast.specs.declared.raw.RawUnary.TheVariants as unary
 use Rattle.species_ast.specs.declared.raw.RawOp.{RawOp}
 use Rattle.species_ast.specs.declared.raw.RawOp.TheVariants as op
 
+-- kinds of tokens
 abbrev pub is_punctuator : TokenKind → Bool
 is_punctuator token.Punct = true
 is_punctuator _ = false
@@ -27,19 +28,30 @@ abbrev pub is_keyword : TokenKind → Bool
 is_keyword token.Keyword = true
 is_keyword _ = false
 
+-- the value, where a test holds
 abbrev pub when : {A : Type 0} → Bool → A → Option A
 when b x = if b then Some x else None
 
+-- the bytes of a token where they stand
 abbrev pub spelling_of : Token → Spelling
 spelling_of t = record { text = t.text; place = t.place }
 
 -- ---- one punctuator or keyword, of which the place is kept
 
-abbrev pub the_mark : String → Word Token ℕ
-the_mark s = record { says = λ t. when (is_punctuator t.kind && bytes_eq t.text (codes s)) t.place; token = λ p. punctuator p s }
+-- the punctuator of these bytes
+abbrev pub punctuator_of : List ℕ → Word Token ℕ
+punctuator_of text = record { says = λ t. when (is_punctuator t.kind && bytes_eq t.text text) t.place; token = λ p. record { place = p; text = text; kind = token.Punct } }
+
+-- the keyword of these bytes
+abbrev pub keyword_of : List ℕ → Word Token ℕ
+keyword_of text = record { says = λ t. when (is_keyword t.kind && bytes_eq t.text text) t.place; token = λ p. record { place = p; text = text; kind = token.Keyword } }
+
+-- the same of a spelling in the definitions
+abbrev pub the_punctuator : String → Word Token ℕ
+the_punctuator s = punctuator_of (codes s)
 
 abbrev pub the_keyword : String → Word Token ℕ
-the_keyword s = record { says = λ t. when (is_keyword t.kind && bytes_eq t.text (codes s)) t.place; token = λ p. keyword p s }
+the_keyword s = keyword_of (codes s)
 
 -- ---- one of a table of punctuators
 
@@ -48,29 +60,36 @@ abbrev pub find_sign : {O : Type 0} → (O → String) → List O → List ℕ �
 find_sign sign [] text = None
 find_sign sign (o ∷ os) text = if bytes_eq text (codes (sign o)) then Some o else find_sign sign os text
 
+-- what a punctuator stands for, with its place
 abbrev pub placed : {O : Type 0} → ℕ → Bool → Option O → Option (ℕ × O)
 placed p true (Some o) = Some (p, o)
 placed p true None = None
 placed p false o = None
 
+-- one of these punctuators, each by its spelling
 abbrev pub one_of : {O : Type 0} → (O → String) → List O → Word Token (ℕ × O)
 one_of sign all = record { says = λ t. placed t.place (is_punctuator t.kind) (find_sign sign all t.text); token = λ p. punctuator p.0 (sign p.1) }
 
+-- the operators of C17 6.5.3.3 that the language has
 abbrev pub all_unary : List RawUnary
 all_unary = unary.Neg ∷ unary.Plus ∷ unary.Not ∷ unary.LogNot ∷ []
 
+-- a unary operator with its place
 abbrev pub unary_operators : Word Token (ℕ × RawUnary)
 unary_operators = one_of unary_sign all_unary
 
+-- the binary operators of C17 6.5.5 to 6.5.14
 abbrev pub all_operations : List Operation
 all_operations =
     Operation.strict binary.Mul ∷ Operation.strict binary.Div ∷ Operation.strict binary.Rem ∷ Operation.strict binary.Add ∷ Operation.strict binary.Sub ∷ Operation.strict binary.Shl
     ∷ Operation.strict binary.Shr ∷ Operation.strict binary.Lt ∷ Operation.strict binary.Le ∷ Operation.strict binary.Gt ∷ Operation.strict binary.Ge ∷ Operation.strict binary.Eq
     ∷ Operation.strict binary.Ne ∷ Operation.strict binary.BitAnd ∷ Operation.strict binary.BitXor ∷ Operation.strict binary.BitOr ∷ Operation.logical_and ∷ Operation.logical_or ∷ []
 
+-- a binary operator of any level with its place
 abbrev pub binary_operators : Word Token (ℕ × Operation)
 binary_operators = one_of binary_sign all_operations
 
+-- only what has the level
 abbrev pub of_level : ℕ → Option (ℕ × Operation) → Option (ℕ × Operation)
 of_level n (Some p) = when (nat_eq (level_of p.1) n) p
 of_level n None = None
@@ -79,67 +98,85 @@ of_level n None = None
 abbrev pub operators_at : ℕ → Token → Option (ℕ × Operation)
 operators_at n t = of_level n (binary_operators.says t)
 
+-- the assignment operators of C17 6.5.16
 abbrev pub all_assignments : List RawOp
 all_assignments = op.Plain ∷ op.Add ∷ op.Sub ∷ op.Mul ∷ op.Div ∷ op.Rem ∷ op.BitAnd ∷ op.BitXor ∷ op.BitOr ∷ op.Shl ∷ op.Shr ∷ []
 
+-- an assignment operator with its place
 abbrev pub assignment_operators : Word Token (ℕ × RawOp)
 assignment_operators = one_of assignment_sign all_assignments
 
+-- the comparisons that may stand in the header of a loop
 abbrev pub all_tests : List Test
 all_tests = test.Lt ∷ test.Le ∷ test.Gt ∷ test.Ge ∷ []
 
+-- one of these comparisons with its place
 abbrev pub tests : Word Token (ℕ × Test)
 tests = one_of test_sign all_tests
 
 -- ---- other tokens
 
+-- the name that a token is
 abbrev pub name_in : TokenKind → Token → Option Spelling
 name_in token.Name t = Some (spelling_of t)
 name_in _ t = None
 
+-- a name
 abbrev pub names : Word Token Spelling
 names = record { says = λ t. name_in t.kind t; token = name }
 
+-- the number that a token is
 abbrev pub number_in : TokenKind → Token → Option (Spelling × Value)
 number_in (token.Number v) t = Some (spelling_of t, v)
 number_in _ t = None
 
+-- a number with its value
 abbrev pub numbers : Word Token (Spelling × Value)
 numbers = record { says = λ t. number_in t.kind t; token = λ p. number p.0 p.1 }
 
+-- the `#include` that a token is
 abbrev pub include_in : TokenKind → Token → Option Spelling
 include_in token.Include t = Some (spelling_of t)
 include_in _ t = None
 
+-- an `#include`
 abbrev pub includes : Word Token Spelling
 includes = record { says = λ t. include_in t.kind t; token = include }
 
+-- the species line that a token is
 abbrev pub species_in : TokenKind → Token → Option Spelling
 species_in token.Species t = Some (spelling_of t)
 species_in _ t = None
 
+-- a species line
 abbrev pub species_lines : Word Token Spelling
 species_lines = record { says = λ t. species_in t.kind t; token = species }
 
+-- the parallel line that a token is
 abbrev pub parallel_in : TokenKind → Token → Option (Spelling × (ℕ × Schedule))
 parallel_in (token.Parallel d s) t = Some (spelling_of t, (d, s))
 parallel_in _ t = None
 
+-- a parallel line with its depth and schedule
 abbrev pub parallel_lines : Word Token (Spelling × (ℕ × Schedule))
 parallel_lines = record { says = λ t. parallel_in t.kind t; token = λ p. parallel p.0 p.1.0 p.1.1 }
 
+-- the atomic line that a token is
 abbrev pub atomic_in : TokenKind → Token → Option Spelling
 atomic_in token.Atomic t = Some (spelling_of t)
 atomic_in _ t = None
 
+-- an atomic line
 abbrev pub atomic_lines : Word Token Spelling
 atomic_lines = record { says = λ t. atomic_in t.kind t; token = atomic }
 
 -- ---- tests of the next token
 
-abbrev pub is_mark : String → Token → Bool
-is_mark s = is_of (the_mark s)
+-- this punctuator is the token
+abbrev pub is_the_punctuator : String → Token → Bool
+is_the_punctuator s = is_of (the_punctuator s)
 
+-- this keyword is the token
 abbrev pub is_the_keyword : String → Token → Bool
 is_the_keyword s = is_of (the_keyword s)
 
@@ -151,10 +188,11 @@ is_type t = is_the_keyword "int" t || is_the_keyword "unsigned" t
 abbrev pub is_loop : Token → Bool
 is_loop t = is_of species_lines t || is_of parallel_lines t || is_the_keyword "for" t
 
+-- an operator of the level or a higher one
 abbrev pub of_least_level : ℕ → Option (ℕ × Operation) → Bool
 of_least_level n (Some p) = nat_le n (level_of p.1)
 of_least_level n None = false
 
 -- An expression of the level goes on there: a subscript, an operator of the level or a higher one, and at the lowest level a `?`.
 abbrev pub goes_on : ℕ → Token → Bool
-goes_on n t = is_mark "[" t || (of_least_level n (binary_operators.says t) || (nat_eq n 0 && is_mark "?" t))
+goes_on n t = is_the_punctuator "[" t || (of_least_level n (binary_operators.says t) || (nat_eq n 0 && is_the_punctuator "?" t))

@@ -1,10 +1,29 @@
-//! The grammar of kernels, exactly: the raw tree of a program, or the place of its syntax error.
+//! Reads a text: its raw tree, or why it has none; and the laws of the grammar.
 #![tactic(auto)]
 
+mod changes;
+mod cursor;
+mod declarations;
+mod expressions;
+mod headers;
 mod law;
+mod load;
+mod operators;
+mod program;
+mod refusal;
+mod statements;
+mod stop;
+mod tokens;
+mod types;
+mod units;
 
 pub use law::{law_grammar, law_places, law_reading};
+pub use program::parse;
+pub use refusal::ReadRefusal;
 pub use species_ast::{
-    RawArray, RawChange, RawExpr, RawItem, RawLocal, RawLoop, RawName, RawOp, RawStep, RawStmt,
-    RawTarget, RawTerm, RawUnary, RawUnit, RawWhat,
+    LexRefusal, RawArray, RawChange, RawExpr, RawItem, RawLocal, RawLoop, RawName, RawOp, RawStep,
+    RawStmt, RawTarget, RawTerm, RawUnary, RawUnit, RawWhat,
 };
+
+#[cfg(test)]
+mod tests;

@@ -57,7 +57,7 @@ abbrev pub is_free : Meaning → Bool
 is_free (Meaning.Variable x) = is_int x.kind && not x.initialised
 is_free m = false
 
--- IteratorAssigned: an iterator is set in its loop, or a loop without `int` has a name that is not free
+-- IteratorAssigned: an iterator is assigned to in its loop, or a loop without `int` has a name that is not free
 abbrev pub is_assigned_as : Role → Option Meaning → Bool
 is_assigned_as (Assigned n) (Some (Meaning.Iterator level)) = true
 is_assigned_as Iterates (Some m) = not (is_free m)

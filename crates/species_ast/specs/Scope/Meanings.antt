@@ -42,12 +42,12 @@ meaning_of s name = meaning_in s.names name.text
 
 -- ---- declarations
 
-abbrev pub declared : Spelling → Meaning → Scope → Scope
-declared name m s = record s { names = (name.text, m) ∷ s.names }
+abbrev pub scope_with : Spelling → Meaning → Scope → Scope
+scope_with name m s = record s { names = (name.text, m) ∷ s.names }
 
 -- behind the declarator of a local
-abbrev pub declare_local : Spelling → Local → Scope → Scope
-declare_local name x s = record s { names = (name.text, Variable x) ∷ s.names; serials = suc s.serials }
+abbrev pub scope_with_local : Spelling → Local → Scope → Scope
+scope_with_local name x s = record s { names = (name.text, Variable x) ∷ s.names; serials = suc s.serials }
 
 -- in the limit, the step and the body of a loop (C17 6.8.5)
 abbrev pub in_loop : Spelling → Bool → Scope → Scope
@@ -77,7 +77,7 @@ local_number s serial = count_before s.iterators serial
 -- What a name is used for where it stands.
 pub data Role : Type 0 where
   Declared : Role
-  -- its value is taken, or the name is set, with so many subscripts
+  -- its value is taken, or it is assigned to, with so many subscripts
   Taken : ℕ → Role
   Assigned : ℕ → Role
   -- a loop without `int` has it as its iterator

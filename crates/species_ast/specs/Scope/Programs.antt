@@ -12,7 +12,7 @@ use Rattle.species_ast.specs.declared.raw.RawItem.TheVariants as item
 use Rattle.species_ast.specs.declared.raw.RawUnit.{RawUnit}
 use Rattle.species_ast.specs.Grammar.Expressions.{place_of}
 use Rattle.species_ast.specs.Scope.Forms.{constant_of}
-use Rattle.species_ast.specs.Scope.Meanings.{Meaning, Scope, declared, Role, Declared, Iterates, Occurrence, occurrence}
+use Rattle.species_ast.specs.Scope.Meanings.{Meaning, Scope, scope_with, Role, Declared, Iterates, Occurrence, occurrence}
 use Rattle.species_ast.specs.Scope.Expressions.{ExprReading, reading, names_of}
 use Rattle.species_ast.specs.Scope.Statements.{LoopSite, Walk, in_order, stmt_piece}
 
@@ -72,7 +72,7 @@ globals_from n (a ∷ rest) s =
     let sizes = map (size_in s) a.sizes in
     let array : Array = record { name = a.name.text; kind = a.kind; dims = map (λ x. extent x.number) sizes } in
     let names = occurrence Declared s a.name ∷ names_of (map (λ x. x.reads s) a.sizes) in
-    let later = globals_from (suc n) rest (declared a.name (Meaning.Array n (length a.sizes)) s) in
+    let later = globals_from (suc n) rest (scope_with a.name (Meaning.Array n (length a.sizes)) s) in
     record { arrays = record { name = a.name; array = array; sizes = sizes } ∷ later.arrays; names = names ++ later.names; next = later.next }
 
 -- ---- the program
@@ -96,7 +96,7 @@ arrays_of (item.Global k arrays) = map (parts_of k) arrays
 abbrev pub program_with : List (List ℕ) → List ArrayParts → Spelling → List Walk → List ℕ → Program
 program_with headers arrays name body iterators =
     let globals = globals_from 0 arrays (first_scope iterators) in
-    let inner = in_order body (declared name Meaning.Function globals.next) in
+    let inner = in_order body (scope_with name Meaning.Function globals.next) in
     record {
       unit = record {
         includes = headers;

@@ -28,7 +28,7 @@ use Rattle.species_ast.specs.declared.raw.RawStmt.{RawStmt, fold-RawStmt}
 use Rattle.species_ast.specs.declared.raw.RawWhat.TheOpen.{RawWhat-F, RawStmt-F, RawLoop-F}
 use Rattle.species_ast.specs.Grammar.Expressions.{place_of}
 use Rattle.species_ast.specs.Scope.Forms.{constant_of}
-use Rattle.species_ast.specs.Scope.Meanings.{Meaning, Scope, declare_local, in_loop, behind, is_among, local_number, Role, Declared, Assigned, Iterates, InHeader, Occurrence, occurrence}
+use Rattle.species_ast.specs.Scope.Meanings.{Meaning, Scope, scope_with_local, in_loop, behind, is_among, local_number, Role, Declared, Assigned, Iterates, InHeader, Occurrence, occurrence}
 use Rattle.species_ast.specs.Scope.Expressions.{ExprReading, ResolvedTarget, reading, target_in, value_of}
 use Rattle.species_ast.specs.Scope.Nests.{is_parallel}
 
@@ -99,7 +99,7 @@ kept_local k name init s = stmt.Declare name.place (local_number s s.serials) (o
 -- A local is in scope in its own initialiser. One that is the iterator of a loop leaves nothing behind.
 abbrev pub local_piece : Kind → Spelling → Option (Scope → ExprReading) → Walk
 local_piece k name init s =
-    let inner = declare_local name (record { serial = s.serials; kind = k; initialised = is_some init }) s in
+    let inner = scope_with_local name (record { serial = s.serials; kind = k; initialised = is_some init }) s in
     let value = option_map (λ read. read inner) init in
     let names = occurrence Declared s name ∷ unwrap_or (option_map (λ r. r.names) value) [] in
     if is_among s.iterators s.serials then piece [] (names_only names) inner
@@ -156,18 +156,18 @@ operated s p op.Shl t v = combined s p binary.Shl t v
 operated s p op.Shr t v = combined s p binary.Shr t v
 
 -- the names of a target that is set
-abbrev pub set_names : Scope → ResolvedTarget → List Occurrence
-set_names s t = occurrence (Assigned (length t.subs)) s t.name ∷ t.names
+abbrev pub assigned_names : Scope → ResolvedTarget → List Occurrence
+assigned_names s t = occurrence (Assigned (length t.subs)) s t.name ∷ t.names
 
 -- a change of a target by a value, and one of a target alone
 abbrev pub change_by : (Scope → ResolvedTarget → Expr → List Stmt) → (Scope → ResolvedTarget) → (Scope → ExprReading) → Walk
 change_by becomes target value s =
     let t = target s in
     let v = value s in
-    piece (becomes s t v.expr) (names_only (set_names s t ++ v.names)) s
+    piece (becomes s t v.expr) (names_only (assigned_names s t ++ v.names)) s
 
 abbrev pub change_by_one : (Scope → ResolvedTarget → Expr → List Stmt) → (Scope → ResolvedTarget) → Walk
-change_by_one becomes target s = let t = target s in piece (becomes s t one) (names_only (set_names s t)) s
+change_by_one becomes target s = let t = target s in piece (becomes s t one) (names_only (assigned_names s t)) s
 
 abbrev pub change_piece : ℕ → RawChange → Walk
 change_piece p (change.Set t o e) = change_by (λ s. operated s p o) (target_in t) (reading e)

@@ -16,35 +16,35 @@ use Rattle.species_ast.specs.declared.tree.Kind.{Kind}
 use Rattle.species_ast.specs.declared.raw.RawItem.{RawItem}
 use Rattle.species_ast.specs.declared.raw.RawStmt.{RawStmt}
 use Rattle.species_ast.specs.declared.raw.RawUnit.{RawUnit}
-use Rattle.species_parser.specs.Words.{the_mark, the_keyword, names, includes, is_the_keyword}
+use Rattle.species_parser.specs.Words.{the_punctuator, the_keyword, names, includes, is_the_keyword}
 use Rattle.species_parser.specs.Reading.{global_at, body_at, function_of, function_at, after_of, include_of, external_at, unstatic, unit_at}
-use Rattle.species_parser.proofs.Words.{mark_is_word, keyword_is_word, name_is_word, include_is_word, clash}
-use Rattle.species_parser.proofs.Declarations.{GlobalBefore, global_lawful}
-use Rattle.species_parser.proofs.Headers.{optional_viable, optional_full}
-use Rattle.species_parser.proofs.Statements.{ItemsBefore, body_lawful}
+use Rattle.species_parser.proofs.Words.{punctuator_is_word, keyword_is_word, name_is_word, include_is_word, clash}
+use Rattle.species_parser.proofs.DeclarationLaws.{GlobalBefore, global_lawful}
+use Rattle.species_parser.proofs.HeaderLaws.{optional_viable, optional_full}
+use Rattle.species_parser.proofs.StatementLaws.{ItemsBefore, body_lawful}
 
 -- ---- functions
 
 abbrev FunctionV : Spelled Token RawUnit
 FunctionV = skip_spelled (the_keyword "void") (mapped_spelled function_of (both_spelled (word_spelled names)
-    (skip_spelled (the_mark "(") (both_spelled (maybe_word_spelled (the_keyword "void")) (skip_spelled (the_mark ")") (skip_spelled (the_mark "{") BlockItems))))))
+    (skip_spelled (the_punctuator "(") (both_spelled (maybe_word_spelled (the_keyword "void")) (skip_spelled (the_punctuator ")") (skip_spelled (the_punctuator "{") BlockItems))))))
 
 abbrev FunctionS : Before Token RawUnit
 FunctionS = skip_before (the_keyword "void") (mapped_before function_of (both_before (plain (word_spelled names))
-    (skip_before (the_mark "(") (both_before (maybe_word_before (the_keyword "void")) (skip_before (the_mark ")") (skip_before (the_mark "{") (plain BlockItems)))))))
+    (skip_before (the_punctuator "(") (both_before (maybe_word_before (the_keyword "void")) (skip_before (the_punctuator ")") (skip_before (the_punctuator "{") (plain BlockItems)))))))
 
 abbrev FunctionF : ℕ → Before Token RawUnit
 FunctionF n = skip_before (the_keyword "void") (mapped_before function_of (both_before (plain (word_spelled names))
-    (skip_before (the_mark "(") (both_before (maybe_word_before (the_keyword "void")) (skip_before (the_mark ")") (skip_before (the_mark "{") (ItemsBefore n)))))))
+    (skip_before (the_punctuator "(") (both_before (maybe_word_before (the_keyword "void")) (skip_before (the_punctuator ")") (skip_before (the_punctuator "{") (ItemsBefore n)))))))
 
 function_lawful : (n : ℕ) → Lawful (function_at n) FunctionS (FunctionF n) FunctionV
 function_lawful n =
     skip_lawful (the_keyword "void") (keyword_is_word "void") _ _ _ _
-    (mapped_lawful function_of (both (word names) (skip (the_mark "(") (both (maybe_word (the_keyword "void")) (skip (the_mark ")") (skip (the_mark "{") (body_at n)))))) _ _ _
-    (both_lawful (word names) (skip (the_mark "(") (both (maybe_word (the_keyword "void")) (skip (the_mark ")") (skip (the_mark "{") (body_at n))))) _ _ _ _ _ _ (word_lawful names name_is_word)
-    (skip_lawful (the_mark "(") (mark_is_word "(") (both (maybe_word (the_keyword "void")) (skip (the_mark ")") (skip (the_mark "{") (body_at n)))) _ _ _
-    (both_lawful (maybe_word (the_keyword "void")) (skip (the_mark ")") (skip (the_mark "{") (body_at n))) _ _ _ _ _ _ (maybe_word_lawful (the_keyword "void") (keyword_is_word "void"))
-    (skip_lawful (the_mark ")") (mark_is_word ")") (skip (the_mark "{") (body_at n)) _ _ _ (skip_lawful (the_mark "{") (mark_is_word "{") (body_at n) _ _ _ (body_lawful n)))))))
+    (mapped_lawful function_of (both (word names) (skip (the_punctuator "(") (both (maybe_word (the_keyword "void")) (skip (the_punctuator ")") (skip (the_punctuator "{") (body_at n)))))) _ _ _
+    (both_lawful (word names) (skip (the_punctuator "(") (both (maybe_word (the_keyword "void")) (skip (the_punctuator ")") (skip (the_punctuator "{") (body_at n))))) _ _ _ _ _ _ (word_lawful names name_is_word)
+    (skip_lawful (the_punctuator "(") (punctuator_is_word "(") (both (maybe_word (the_keyword "void")) (skip (the_punctuator ")") (skip (the_punctuator "{") (body_at n)))) _ _ _
+    (both_lawful (maybe_word (the_keyword "void")) (skip (the_punctuator ")") (skip (the_punctuator "{") (body_at n))) _ _ _ _ _ _ (maybe_word_lawful (the_keyword "void") (keyword_is_word "void"))
+    (skip_lawful (the_punctuator ")") (punctuator_is_word ")") (skip (the_punctuator "{") (body_at n)) _ _ _ (skip_lawful (the_punctuator "{") (punctuator_is_word "{") (body_at n) _ _ _ (body_lawful n)))))))
 
 -- ---- what a unit is read as
 

@@ -14,13 +14,13 @@ use Rattle.species_ast.specs.declared.raw.RawExpr.{RawExpr}
 use Rattle.species_ast.specs.declared.raw.RawChange.{RawChange}
 use Rattle.species_ast.specs.declared.raw.RawStmt.{RawStmt}
 use Rattle.species_ast.specs.declared.raw.RawWhat.TheVariants as what
-use Rattle.species_parser.specs.Words.{the_mark, the_keyword, species_lines, parallel_lines, atomic_lines, is_mark, is_the_keyword, is_type, is_loop}
+use Rattle.species_parser.specs.Words.{the_punctuator, the_keyword, species_lines, parallel_lines, atomic_lines, is_the_punctuator, is_the_keyword, is_type, is_loop}
 use Rattle.species_parser.specs.Reading.{expression_at, target_at, declaration_at, change_at, assignment_of, assignment_at, atomic_of, atomic_at, header_at, parallel_of, parallel_reader, loop_of, loop_at, condition_at, if_of, if_at, items_at, block_of, block_at, empty_of, statement_at}
-use Rattle.species_parser.proofs.Words.{mark_is_word, keyword_is_word, atomic_is_word, clash}
-use Rattle.species_parser.proofs.Expressions.{ExprBefore}
+use Rattle.species_parser.proofs.Words.{punctuator_is_word, keyword_is_word, atomic_is_word, clash}
+use Rattle.species_parser.proofs.ExpressionLaws.{ExprBefore}
 use Rattle.species_parser.proofs.Operands.{TargetBefore, target_lawful, expression_lawful}
-use Rattle.species_parser.proofs.Declarations.{DeclarationBefore, declaration_lawful, declaration_starts}
-use Rattle.species_parser.proofs.Headers.{ChangeBefore, change_lawful, after_target, header_lawful, species_lawful, species_full, parallel_lawful, parallel_full}
+use Rattle.species_parser.proofs.DeclarationLaws.{DeclarationBefore, declaration_lawful, declaration_starts}
+use Rattle.species_parser.proofs.HeaderLaws.{ChangeBefore, change_lawful, after_target, header_lawful, species_lawful, species_full, parallel_lawful, parallel_full}
 
 -- ---- the words
 
@@ -105,7 +105,7 @@ not_else = record {
   atomic_line = λ n. refl;
 }
 
-not_end : Begins (is_mark "}") false
+not_end : Begins (is_the_punctuator "}") false
 not_end = record {
   semicolon = λ p. refl;
   brace = λ p. refl;
@@ -164,12 +164,12 @@ ItemV = choose_spelled LocalDeclaration StmtV
 abbrev ItemF : ℕ → Before Token RawStmt
 ItemF n = choose_before is_type (DeclarationBefore n) (StmtF n)
 
-items_viable : (xs : List RawStmt) (front : List Token) → until_spelled (the_mark "}") ItemV xs front → BlockItems xs front
+items_viable : (xs : List RawStmt) (front : List Token) → until_spelled (the_punctuator "}") ItemV xs front → BlockItems xs front
 items_viable [] front (p, h) = subst (BlockItems []) (sym h) (BlockItems.end p)
 items_viable (x ∷ xs) front (a, b, i, inr (o, d), m) = subst (BlockItems (x ∷ xs)) (sym i) (BlockItems.item o x xs a b d (items_viable xs b m))
 items_viable (x ∷ xs) front (a, b, i, inl d, m) = subst (BlockItems (x ∷ xs)) (sym i) (BlockItems.declaration x xs a b d (items_viable xs b m))
 
-items_full : (n : ℕ) (xs : List RawStmt) (front rest : List Token) → BlockItems xs front → length front < n → Short n (until_before (the_mark "}") (ItemF n)) xs front rest
+items_full : (n : ℕ) (xs : List RawStmt) (front rest : List Token) → BlockItems xs front → length front < n → Short n (until_before (the_punctuator "}") (ItemF n)) xs front rest
 items_full n xs front rest (BlockItems.end p) lt = let z : 0 < n = omega (arith, lt) in (z, (p, refl))
 items_full n xs front rest (BlockItems.item o x ys ts us d ds) lt =
     let l0 = length-append ts us in
@@ -190,50 +190,50 @@ items_full n xs front rest (BlockItems.declaration x ys ts us d ds) lt =
     let short : length (x ∷ ys) < n = omega (arith, lt, l0, one, few) in
     (short, (ts, us, refl, inl (declaration_starts is_type true (λ p. refl) (λ p. refl) x ts (us ++ rest) d, (d, l1)), m.1))
 
-item_not_end : (n : ℕ) (x : RawStmt) (a rest : List Token) → ItemF n x a rest → starts (is_mark "}") (a ++ rest) ≡ false
-item_not_end n x a rest (inl (h, (d, lt))) = declaration_starts (is_mark "}") false (λ p. refl) (λ p. refl) x a rest d
-item_not_end n x a rest (inr (h, (o, d, k, lt))) = statement_starts (is_mark "}") false not_end o x a rest d
+item_not_end : (n : ℕ) (x : RawStmt) (a rest : List Token) → ItemF n x a rest → starts (is_the_punctuator "}") (a ++ rest) ≡ false
+item_not_end n x a rest (inl (h, (d, lt))) = declaration_starts (is_the_punctuator "}") false (λ p. refl) (λ p. refl) x a rest d
+item_not_end n x a rest (inr (h, (o, d, k, lt))) = statement_starts (is_the_punctuator "}") false not_end o x a rest d
 
 -- ---- the alternatives
 
 abbrev CondV : Spelled Token RawExpr
-CondV = skip_spelled (the_mark "(") (ends_spelled (Expression 0) (the_mark ")"))
+CondV = skip_spelled (the_punctuator "(") (ends_spelled (Expression 0) (the_punctuator ")"))
 
 abbrev CondS : Before Token RawExpr
-CondS = skip_before (the_mark "(") (ends_before (plain (Expression 0)) (the_mark ")"))
+CondS = skip_before (the_punctuator "(") (ends_before (plain (Expression 0)) (the_punctuator ")"))
 
 abbrev CondF : ℕ → Before Token RawExpr
-CondF n = skip_before (the_mark "(") (ends_before (ExprBefore n 0) (the_mark ")"))
+CondF n = skip_before (the_punctuator "(") (ends_before (ExprBefore n 0) (the_punctuator ")"))
 
 condition_lawful : (n : ℕ) → Lawful (condition_at n) CondS (CondF n) CondV
-condition_lawful n = skip_lawful (the_mark "(") (mark_is_word "(") (ends (expression_at n) (the_mark ")")) _ _ _ (ends_lawful (expression_at n) (the_mark ")") (mark_is_word ")") _ _ _ (expression_lawful n))
+condition_lawful n = skip_lawful (the_punctuator "(") (punctuator_is_word "(") (ends (expression_at n) (the_punctuator ")")) _ _ _ (ends_lawful (expression_at n) (the_punctuator ")") (punctuator_is_word ")") _ _ _ (expression_lawful n))
 
 abbrev Closed : Spelled Token RawStmt
 Closed = Statement false
 
 abbrev EmptyF : Before Token RawStmt
-EmptyF = mapped_before empty_of (plain (word_spelled (the_mark ";")))
+EmptyF = mapped_before empty_of (plain (word_spelled (the_punctuator ";")))
 
-empty_lawful : Lawful (mapped empty_of (word (the_mark ";"))) (plain Closed) EmptyF Closed
+empty_lawful : Lawful (mapped empty_of (word (the_punctuator ";"))) (plain Closed) EmptyF Closed
 empty_lawful =
-    recast_plain (mapped empty_of (word (the_mark ";"))) _ _ _ _ Closed (mapped_lawful empty_of (word (the_mark ";")) _ _ _ (word_lawful (the_mark ";") (mark_is_word ";")))
+    recast_plain (mapped empty_of (word (the_punctuator ";"))) _ _ _ _ Closed (mapped_lawful empty_of (word (the_punctuator ";")) _ _ _ (word_lawful (the_punctuator ";") (punctuator_is_word ";")))
     (λ x front rest h. h)
     (λ x front (p, y, h). subst (λ z. Closed z front) y (subst (Closed (empty_of p)) (sym h) (Statement.empty p)))
 
 abbrev AssignF : ℕ → Before Token RawStmt
-AssignF n = mapped_before assignment_of (ends_before (ChangeBefore n) (the_mark ";"))
+AssignF n = mapped_before assignment_of (ends_before (ChangeBefore n) (the_punctuator ";"))
 
 assignment_lawful : (n : ℕ) → Lawful (assignment_at n) (plain Closed) (AssignF n) Closed
 assignment_lawful n =
     recast_plain (assignment_at n) _ _ _ _ Closed
-    (mapped_lawful assignment_of (ends (change_at n) (the_mark ";")) _ _ _ (ends_lawful (change_at n) (the_mark ";") (mark_is_word ";") _ _ _ (change_lawful n)))
+    (mapped_lawful assignment_of (ends (change_at n) (the_punctuator ";")) _ _ _ (ends_lawful (change_at n) (the_punctuator ";") (punctuator_is_word ";") _ _ _ (change_lawful n)))
     (λ x front rest h. h)
     (λ x front (p, y, (q, cs, i, d)). subst (λ z. Closed z front) y (subst (Closed (assignment_of p)) (sym i) (Statement.assignment p.0 q p.1 cs d)))
 
 abbrev AtomicF : ℕ → Before Token RawStmt
-AtomicF n = skip_before atomic_lines (mapped_before atomic_of (both_before (TargetBefore n) (skip_before (the_mark "+=") (ends_before (ExprBefore n 0) (the_mark ";")))))
+AtomicF n = skip_before atomic_lines (mapped_before atomic_of (both_before (TargetBefore n) (skip_before (the_punctuator "+=") (ends_before (ExprBefore n 0) (the_punctuator ";")))))
 
-atomic_viable : (x : RawStmt) (front : List Token) → skip_spelled atomic_lines (mapped_spelled atomic_of (both_spelled Target (skip_spelled (the_mark "+=") (ends_spelled (Expression 0) (the_mark ";"))))) x front → Closed x front
+atomic_viable : (x : RawStmt) (front : List Token) → skip_spelled atomic_lines (mapped_spelled atomic_of (both_spelled Target (skip_spelled (the_punctuator "+=") (ends_spelled (Expression 0) (the_punctuator ";"))))) x front → Closed x front
 atomic_viable x front (n, b, i, (p, y, (ts, c, j, td, (q, d, k, (r, xs, m, xd))))) =
     subst (λ z. Closed z front) y
     (subst (Closed (atomic_of p)) (sym (i ∙ ap (λ z. atomic n ∷ z) (j ∙ ap (λ z. ts ++ z) (k ∙ ap (λ z. punctuator q "+=" ∷ z) m)))) (Statement.atomic_assignment q r n p.0 p.1 ts xs td xd))
@@ -241,10 +241,10 @@ atomic_viable x front (n, b, i, (p, y, (ts, c, j, td, (q, d, k, (r, xs, m, xd)))
 atomic_lawful : (n : ℕ) → Lawful (atomic_at n) (plain Closed) (AtomicF n) Closed
 atomic_lawful n =
     recast_plain (atomic_at n) _ _ _ _ Closed
-    (skip_lawful atomic_lines atomic_is_word (mapped atomic_of (both (target_at n) (skip (the_mark "+=") (ends (expression_at n) (the_mark ";"))))) _ _ _
-    (mapped_lawful atomic_of (both (target_at n) (skip (the_mark "+=") (ends (expression_at n) (the_mark ";")))) _ _ _
-    (both_lawful (target_at n) (skip (the_mark "+=") (ends (expression_at n) (the_mark ";"))) _ _ _ _ _ _ (target_lawful n)
-    (skip_lawful (the_mark "+=") (mark_is_word "+=") (ends (expression_at n) (the_mark ";")) _ _ _ (ends_lawful (expression_at n) (the_mark ";") (mark_is_word ";") _ _ _ (expression_lawful n))))))
+    (skip_lawful atomic_lines atomic_is_word (mapped atomic_of (both (target_at n) (skip (the_punctuator "+=") (ends (expression_at n) (the_punctuator ";"))))) _ _ _
+    (mapped_lawful atomic_of (both (target_at n) (skip (the_punctuator "+=") (ends (expression_at n) (the_punctuator ";")))) _ _ _
+    (both_lawful (target_at n) (skip (the_punctuator "+=") (ends (expression_at n) (the_punctuator ";"))) _ _ _ _ _ _ (target_lawful n)
+    (skip_lawful (the_punctuator "+=") (punctuator_is_word "+=") (ends (expression_at n) (the_punctuator ";")) _ _ _ (ends_lawful (expression_at n) (the_punctuator ";") (punctuator_is_word ";") _ _ _ (expression_lawful n))))))
     (λ x front rest h. h)
     atomic_viable
 
@@ -354,28 +354,28 @@ module _ (n : ℕ) (l : StmtLaw n) where
   pub items_lawful : Lawful (items_at n (statement_at n)) (plain BlockItems) (ItemsBefore n) BlockItems
   items_lawful =
       recast_plain (items_at n (statement_at n)) _ _ (ItemsBefore n) _ BlockItems
-      (until_lawful (choose is_type (declaration_at n) (statement_at n)) (the_mark "}") (mark_is_word "}") _ _ _
+      (until_lawful (choose is_type (declaration_at n) (statement_at n)) (the_punctuator "}") (punctuator_is_word "}") _ _ _
       (choose_lawful is_type (declaration_at n) (statement_at n) _ _ _ _ _ _ (declaration_lawful n) l) (item_not_end n) n)
       (λ xs front rest h. items_full n xs front rest h.0 h.1)
       items_viable
 
   abbrev BlockF : Before Token RawStmt
-  BlockF = mapped_before block_of (both_before (plain (word_spelled (the_mark "{"))) (ItemsBefore n))
+  BlockF = mapped_before block_of (both_before (plain (word_spelled (the_punctuator "{"))) (ItemsBefore n))
 
   block_lawful : Lawful (block_at n (statement_at n)) (plain Closed) BlockF Closed
   block_lawful =
       recast_plain (block_at n (statement_at n)) _ _ _ _ Closed
-      (mapped_lawful block_of (both (word (the_mark "{")) (items_at n (statement_at n))) _ _ _ (both_lawful (word (the_mark "{")) (items_at n (statement_at n)) _ _ _ _ _ _ (word_lawful (the_mark "{") (mark_is_word "{")) items_lawful))
+      (mapped_lawful block_of (both (word (the_punctuator "{")) (items_at n (statement_at n))) _ _ _ (both_lawful (word (the_punctuator "{")) (items_at n (statement_at n)) _ _ _ _ _ _ (word_lawful (the_punctuator "{") (punctuator_is_word "{")) items_lawful))
       (λ x front rest h. h)
       (λ x front (p, y, (a, b, i, j, d)). subst (λ z. Closed z front) y (subst (Closed (block_of p)) (sym (i ∙ ap (λ z. z ++ b) j)) (Statement.block p.0 p.1 b d)))
 
   -- ---- all
 
   abbrev NodeF : Before Token RawStmt
-  NodeF = choose_before (is_mark ";") EmptyF (choose_before (is_mark "{") BlockF (choose_before (is_the_keyword "if") IfF (choose_before is_loop LoopF (choose_before (is_of atomic_lines) (AtomicF n) (AssignF n)))))
+  NodeF = choose_before (is_the_punctuator ";") EmptyF (choose_before (is_the_punctuator "{") BlockF (choose_before (is_the_keyword "if") IfF (choose_before is_loop LoopF (choose_before (is_of atomic_lines) (AtomicF n) (AssignF n)))))
 
   abbrev NodeS : Before Token RawStmt
-  NodeS = choose_before (is_mark ";") (plain Closed) (choose_before (is_mark "{") (plain Closed) (choose_before (is_the_keyword "if") StmtS (choose_before is_loop StmtS (choose_before (is_of atomic_lines) (plain Closed) (plain Closed)))))
+  NodeS = choose_before (is_the_punctuator ";") (plain Closed) (choose_before (is_the_punctuator "{") (plain Closed) (choose_before (is_the_keyword "if") StmtS (choose_before is_loop StmtS (choose_before (is_of atomic_lines) (plain Closed) (plain Closed)))))
 
   abbrev NodeV : Spelled Token RawStmt
   NodeV = choose_spelled Closed (choose_spelled Closed (choose_spelled StmtV (choose_spelled StmtV (choose_spelled Closed Closed))))
@@ -493,9 +493,9 @@ module _ (n : ℕ) (l : StmtLaw n) where
       let us : List Token = hs ++ ss in
       let off = λ (c : Token → Bool) (f : (i : Spelling) → c (species i) ≡ false) (g : (i : Spelling) (d : ℕ) (z : Schedule) → c (parallel i d z) ≡ false) (w : (r : ℕ) → c (keyword r "for") ≡ false). loop_first c false f g w k m p ls ms us rest ld md in
       inr (
-        off (is_mark ";") (λ i. refl) (λ i d z. refl) (λ r. refl),
+        off (is_the_punctuator ";") (λ i. refl) (λ i d z. refl) (λ r. refl),
         inr (
-          off (is_mark "{") (λ i. refl) (λ i d z. refl) (λ r. refl),
+          off (is_the_punctuator "{") (λ i. refl) (λ i d z. refl) (λ r. refl),
           inr (
             off (is_the_keyword "if") (λ i. refl) (λ i d z. refl) (λ r. refl),
             inl (
@@ -549,9 +549,9 @@ module _ (n : ℕ) (l : StmtLaw n) where
       let l0 = length-append cs (punctuator q ";" ∷ []) in
       let lc : length cs < n = omega (arith, lt, l0) in
       inr (
-        change_first (is_mark ";") (λ r. refl) (λ r. refl) (λ m. refl) p q k cs rest d,
+        change_first (is_the_punctuator ";") (λ r. refl) (λ r. refl) (λ m. refl) p q k cs rest d,
         inr (
-          change_first (is_mark "{") (λ r. refl) (λ r. refl) (λ m. refl) p q k cs rest d,
+          change_first (is_the_punctuator "{") (λ r. refl) (λ r. refl) (λ m. refl) p q k cs rest d,
           inr (
             change_first (is_the_keyword "if") (λ r. refl) (λ r. refl) (λ m. refl) p q k cs rest d,
             inr (
@@ -565,8 +565,8 @@ module _ (n : ℕ) (l : StmtLaw n) where
   node_lawful : StmtLaw (suc n)
   node_lawful =
       recast (statement_at (suc n)) _ _ StmtS (StmtF (suc n)) _ StmtV
-      (choose_lawful (is_mark ";") (mapped empty_of (word (the_mark ";"))) _ _ _ _ _ _ _ empty_lawful
-      (choose_lawful (is_mark "{") (block_at n (statement_at n)) _ _ _ _ _ _ _ block_lawful
+      (choose_lawful (is_the_punctuator ";") (mapped empty_of (word (the_punctuator ";"))) _ _ _ _ _ _ _ empty_lawful
+      (choose_lawful (is_the_punctuator "{") (block_at n (statement_at n)) _ _ _ _ _ _ _ block_lawful
       (choose_lawful (is_the_keyword "if") (if_at n (statement_at n)) _ _ _ _ _ _ _ if_lawful
       (choose_lawful is_loop (loop_at n (statement_at n)) _ _ _ _ _ _ _ loop_lawful
       (choose_lawful (is_of atomic_lines) (atomic_at n) (assignment_at n) _ _ _ _ _ _ (atomic_lawful n) (assignment_lawful n))))))

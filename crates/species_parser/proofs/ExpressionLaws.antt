@@ -13,7 +13,7 @@ use Rattle.species_ast.specs.declared.tree.Kind.{Kind}
 use Rattle.species_ast.specs.declared.tree.Kind.TheVariants as kind
 use Rattle.species_ast.specs.declared.tree.Binary.TheVariants as binary
 use Rattle.species_ast.specs.declared.raw.RawExpr.{RawExpr}
-use Rattle.species_parser.specs.Words.{when, the_keyword, binary_operators, of_level, operators_at, is_mark, is_the_keyword, is_type, of_least_level, goes_on}
+use Rattle.species_parser.specs.Words.{when, the_keyword, binary_operators, of_level, operators_at, is_the_punctuator, is_the_keyword, is_type, of_least_level, goes_on}
 use Rattle.species_parser.specs.Reading.{of_kind, unsigned_of, type_reader, operation_of, level_reader}
 use Rattle.species_parser.proofs.Words.{keyword_is_word, operator_is, operator_own, operator_says, never, clash, mark_apart}
 
@@ -81,9 +81,9 @@ higher_least n (Some p) h = never (nat_le (suc n) (level_of p.1)) (λ e. let le 
 -- where nothing of a level goes on, nothing of a higher one does, and no operator of it stands there
 goes_higher : (n : ℕ) (t : Token) → goes_on n t ≡ false → goes_on (suc n) t ≡ false
 goes_higher n t h =
-    let e = or_false (is_mark "[" t) _ h in
+    let e = or_false (is_the_punctuator "[" t) _ h in
     let f = or_false (of_least_level n (binary_operators.says t)) _ e.1 in
-    or_both (is_mark "[" t) _ e.0 (or_both (of_least_level (suc n) (binary_operators.says t)) _ (higher_least n (binary_operators.says t) f.0) (ap (λ z. z && is_mark "?" t) (not_zero n)))
+    or_both (is_the_punctuator "[" t) _ e.0 (or_both (of_least_level (suc n) (binary_operators.says t)) _ (higher_least n (binary_operators.says t) f.0) (ap (λ z. z && is_the_punctuator "?" t) (not_zero n)))
 
 not_of_level : (n : ℕ) (o : Option (ℕ × Operation)) → of_least_level n o ≡ false → is_some (of_level n o) ≡ false
 not_of_level n None h = refl
@@ -97,7 +97,7 @@ not_of_level n (Some p) h = go (nat_eq (level_of p.1) n) refl
     go false e = refl
 
 no_operator : (n : ℕ) (t : Token) → goes_on n t ≡ false → is_some (operators_at n t) ≡ false
-no_operator n t h = not_of_level n (binary_operators.says t) (or_false (of_least_level n (binary_operators.says t)) _ (or_false (is_mark "[" t) _ h).1).0
+no_operator n t h = not_of_level n (binary_operators.says t) (or_false (of_least_level n (binary_operators.says t)) _ (or_false (is_the_punctuator "[" t) _ h).1).0
 
 pub then_higher : (n : ℕ) (rest : List Token) → starts (goes_on n) rest ≡ false → starts (goes_on (suc n)) rest ≡ false
 then_higher n [] h = refl
@@ -107,21 +107,21 @@ pub then_no_operator : (n : ℕ) (rest : List Token) → starts (goes_on n) rest
 then_no_operator n [] h = refl
 then_no_operator n (t ∷ ts) h = no_operator n t h
 
-pub then_no_bracket : (n : ℕ) (rest : List Token) → starts (goes_on n) rest ≡ false → starts (is_mark "[") rest ≡ false
+pub then_no_bracket : (n : ℕ) (rest : List Token) → starts (goes_on n) rest ≡ false → starts (is_the_punctuator "[") rest ≡ false
 then_no_bracket n [] h = refl
-then_no_bracket n (t ∷ ts) h = (or_false (is_mark "[" t) _ h).0
+then_no_bracket n (t ∷ ts) h = (or_false (is_the_punctuator "[" t) _ h).0
 
-pub then_no_question : (rest : List Token) → starts (goes_on 0) rest ≡ false → starts (is_mark "?") rest ≡ false
+pub then_no_question : (rest : List Token) → starts (goes_on 0) rest ≡ false → starts (is_the_punctuator "?") rest ≡ false
 then_no_question [] h = refl
-then_no_question (t ∷ ts) h = (or_false (of_least_level 0 (binary_operators.says t)) _ (or_false (is_mark "[" t) _ h).1).1
+then_no_question (t ∷ ts) h = (or_false (of_least_level 0 (binary_operators.says t)) _ (or_false (is_the_punctuator "[" t) _ h).1).1
 
 -- an operator of a level does not go on with an operand of a higher one
 pub operator_stops : (n : ℕ) (t : Token) (o : ℕ × Operation) → binary_operators.says t ≡ Some o → level_of o.1 ≡ n → goes_on (suc n) t ≡ false
 operator_stops n t o h l =
-    or_both (is_mark "[" t) _ (mark_apart binary_operators "[" t o h (λ q. refl))
+    or_both (is_the_punctuator "[" t) _ (mark_apart binary_operators "[" t o h (λ q. refl))
     (or_both (of_least_level (suc n) (binary_operators.says t)) _
     (ap (of_least_level (suc n)) h ∙ never (nat_le (suc n) (level_of o.1)) (λ e. let le = leb-true (suc n) (level_of o.1) e in omega (arith, le, l)))
-    (ap (λ z. z && is_mark "?" t) (not_zero n)))
+    (ap (λ z. z && is_the_punctuator "?" t) (not_zero n)))
 
 -- ---- levels
 

@@ -18,10 +18,10 @@ use Rattle.species_ast.specs.declared.raw.RawChange.{RawChange}
 use Rattle.species_ast.specs.declared.raw.RawChange.TheVariants as change
 use Rattle.species_ast.specs.declared.raw.RawStep.{RawStep}
 use Rattle.species_ast.specs.declared.raw.RawStep.TheVariants as step
-use Rattle.species_parser.specs.Words.{the_mark, the_keyword, assignment_operators, tests, names, species_lines, parallel_lines, is_mark, goes_on}
+use Rattle.species_parser.specs.Words.{the_punctuator, the_keyword, assignment_operators, tests, names, species_lines, parallel_lines, is_the_punctuator, goes_on}
 use Rattle.species_parser.specs.Reading.{expression_at, product_at, target_at, up_after, down_after, set_to, change_tail_at, up_first, down_first, target_first, change_at, add_after, sub_after, sum_at, step_up, step_down, step_add, step_sub, step_set, step_tail_at, step_of, step_at, header_of, optional, header_step_at, header_test_at, header_at, parallel_of, parallel_reader}
-use Rattle.species_parser.proofs.Words.{mark_is_word, keyword_is_word, assignment_is_word, test_is_word, name_is_word, species_is_word, parallel_is_word, mark_apart}
-use Rattle.species_parser.proofs.Expressions.{ExprBefore, then_any, then_no_bracket}
+use Rattle.species_parser.proofs.Words.{punctuator_is_word, keyword_is_word, assignment_is_word, test_is_word, name_is_word, species_is_word, parallel_is_word, mark_apart}
+use Rattle.species_parser.proofs.ExpressionLaws.{ExprBefore, then_any, then_no_bracket}
 use Rattle.species_parser.proofs.Operands.{TargetBefore, target_lawful, expression_lawful, product_lawful}
 
 -- ---- changes
@@ -31,12 +31,12 @@ abbrev ChangeTail : Spelled Token (RawTarget → RawChange)
 ChangeTail f us = (t : RawTarget) (ts : List Token) → Target t ts → Change (target_place t) (f t) (ts ++ us)
 
 abbrev ChangeTailV : Spelled Token (RawTarget → RawChange)
-ChangeTailV = choose_spelled (mapped_spelled up_after (word_spelled (the_mark "++")))
-    (choose_spelled (mapped_spelled down_after (word_spelled (the_mark "--"))) (mapped_spelled set_to (both_spelled (word_spelled assignment_operators) (Expression 0))))
+ChangeTailV = choose_spelled (mapped_spelled up_after (word_spelled (the_punctuator "++")))
+    (choose_spelled (mapped_spelled down_after (word_spelled (the_punctuator "--"))) (mapped_spelled set_to (both_spelled (word_spelled assignment_operators) (Expression 0))))
 
 abbrev ChangeTailF : ℕ → Before Token (RawTarget → RawChange)
-ChangeTailF n = choose_before (is_mark "++") (mapped_before up_after (plain (word_spelled (the_mark "++"))))
-    (choose_before (is_mark "--") (mapped_before down_after (plain (word_spelled (the_mark "--")))) (mapped_before set_to (both_before (plain (word_spelled assignment_operators)) (ExprBefore n 0))))
+ChangeTailF n = choose_before (is_the_punctuator "++") (mapped_before up_after (plain (word_spelled (the_punctuator "++"))))
+    (choose_before (is_the_punctuator "--") (mapped_before down_after (plain (word_spelled (the_punctuator "--")))) (mapped_before set_to (both_before (plain (word_spelled assignment_operators)) (ExprBefore n 0))))
 
 change_tail_viable : (f : RawTarget → RawChange) (front : List Token) → ChangeTailV f front → ChangeTail f front
 change_tail_viable f front (inl (p, y, h)) = λ t ts d. subst (λ g. Change (target_place t) (g t) (ts ++ front)) y (subst (λ z. Change (target_place t) (change.Up t) (ts ++ z)) (sym h) (Change.up p t ts d))
@@ -48,10 +48,10 @@ change_tail_viable f front (inr (inr (p, y, (a, b, i, j, xd)))) = λ t ts d.
 change_tail_lawful : (n : ℕ) → Lawful (change_tail_at n) (plain ChangeTail) (ChangeTailF n) ChangeTail
 change_tail_lawful n =
     recast_plain (change_tail_at n) _ _ (ChangeTailF n) _ ChangeTail
-    (choose_lawful (is_mark "++") (mapped up_after (word (the_mark "++"))) (choose (is_mark "--") (mapped down_after (word (the_mark "--"))) (mapped set_to (both (word assignment_operators) (expression_at n)))) _ _ _ _ _ _
-    (mapped_lawful up_after (word (the_mark "++")) _ _ _ (word_lawful (the_mark "++") (mark_is_word "++")))
-    (choose_lawful (is_mark "--") (mapped down_after (word (the_mark "--"))) (mapped set_to (both (word assignment_operators) (expression_at n))) _ _ _ _ _ _
-    (mapped_lawful down_after (word (the_mark "--")) _ _ _ (word_lawful (the_mark "--") (mark_is_word "--")))
+    (choose_lawful (is_the_punctuator "++") (mapped up_after (word (the_punctuator "++"))) (choose (is_the_punctuator "--") (mapped down_after (word (the_punctuator "--"))) (mapped set_to (both (word assignment_operators) (expression_at n)))) _ _ _ _ _ _
+    (mapped_lawful up_after (word (the_punctuator "++")) _ _ _ (word_lawful (the_punctuator "++") (punctuator_is_word "++")))
+    (choose_lawful (is_the_punctuator "--") (mapped down_after (word (the_punctuator "--"))) (mapped set_to (both (word assignment_operators) (expression_at n))) _ _ _ _ _ _
+    (mapped_lawful down_after (word (the_punctuator "--")) _ _ _ (word_lawful (the_punctuator "--") (punctuator_is_word "--")))
     (mapped_lawful set_to (both (word assignment_operators) (expression_at n)) _ _ _ (both_lawful (word assignment_operators) (expression_at n) _ _ _ _ _ _ (word_lawful assignment_operators assignment_is_word) (expression_lawful n)))))
     (λ f front rest h. h)
     change_tail_viable
@@ -63,12 +63,12 @@ abbrev pub ChangeBefore : ℕ → Before Token (ℕ × RawChange)
 ChangeBefore n p front rest = Change p.0 p.1 front × (length front < n) × (starts (goes_on 0) rest ≡ false)
 
 abbrev ChangeV : Spelled Token (ℕ × RawChange)
-ChangeV = choose_spelled (mapped_spelled up_first (both_spelled (word_spelled (the_mark "++")) Target))
-    (choose_spelled (mapped_spelled down_first (both_spelled (word_spelled (the_mark "--")) Target)) (mapped_spelled target_first (both_spelled Target ChangeTail)))
+ChangeV = choose_spelled (mapped_spelled up_first (both_spelled (word_spelled (the_punctuator "++")) Target))
+    (choose_spelled (mapped_spelled down_first (both_spelled (word_spelled (the_punctuator "--")) Target)) (mapped_spelled target_first (both_spelled Target ChangeTail)))
 
 abbrev ChangeF : ℕ → Before Token (ℕ × RawChange)
-ChangeF n = choose_before (is_mark "++") (mapped_before up_first (both_before (plain (word_spelled (the_mark "++"))) (TargetBefore n)))
-    (choose_before (is_mark "--") (mapped_before down_first (both_before (plain (word_spelled (the_mark "--"))) (TargetBefore n))) (mapped_before target_first (both_before (TargetBefore n) (ChangeTailF n))))
+ChangeF n = choose_before (is_the_punctuator "++") (mapped_before up_first (both_before (plain (word_spelled (the_punctuator "++"))) (TargetBefore n)))
+    (choose_before (is_the_punctuator "--") (mapped_before down_first (both_before (plain (word_spelled (the_punctuator "--"))) (TargetBefore n))) (mapped_before target_first (both_before (TargetBefore n) (ChangeTailF n))))
 
 change_viable : (x : ℕ × RawChange) (front : List Token) → ChangeV x front → ChangeSpelled x front
 change_viable x front (inl (p, y, (a, b, i, j, d))) = subst (λ z. ChangeSpelled z front) y (subst (ChangeSpelled (up_first p)) (sym (i ∙ ap (λ z. z ++ b) j)) (Change.up_before p.0 p.1 b d))
@@ -82,7 +82,7 @@ target_starts c b h t ts rest (Target.element m subs us s) = h m
 pub after_target : (c : Token → Bool) (b : Bool) → ((m : Spelling) → c (name m) ≡ b) → (t : RawTarget) (ts us rest : List Token) → Target t ts → starts c ((ts ++ us) ++ rest) ≡ b
 after_target c b h t ts us rest d = ap (starts c) (append_assoc ts us rest) ∙ target_starts c b h t ts (us ++ rest) d
 
-change_full : (n : ℕ) (p : ℕ) (x : RawChange) (front rest : List Token) → Change p x front → length front < n → starts (goes_on 0) rest ≡ false → starts (is_mark "[") rest ≡ false → ChangeF n (p, x) front rest
+change_full : (n : ℕ) (p : ℕ) (x : RawChange) (front rest : List Token) → Change p x front → length front < n → starts (goes_on 0) rest ≡ false → starts (is_the_punctuator "[") rest ≡ false → ChangeF n (p, x) front rest
 change_full n p x front rest (Change.set q o t e ts xs d xd) lt h k =
     let l0 = length-append ts (punctuator q (assignment_sign o) ∷ xs) in
     let lx : length xs < n = omega (arith, lt, l0) in
@@ -90,9 +90,9 @@ change_full n p x front rest (Change.set q o t e ts xs d xd) lt h k =
     let sign = assignment_operators.token (q, o) in
     let own = assignment_is_word.own (q, o) in
     inr (
-      after_target (is_mark "++") false (λ m. refl) t ts _ rest d,
+      after_target (is_the_punctuator "++") false (λ m. refl) t ts _ rest d,
       inr (
-        after_target (is_mark "--") false (λ m. refl) t ts _ rest d,
+        after_target (is_the_punctuator "--") false (λ m. refl) t ts _ rest d,
         (
           (t, set_to ((q, o), e)),
           refl,
@@ -116,9 +116,9 @@ change_full n p x front rest (Change.up q t ts d) lt h k =
     let l0 = length-append ts (punctuator q "++" ∷ []) in
     let l1 : length ts < suc n = omega (arith, lt, l0) in
     inr (
-      after_target (is_mark "++") false (λ m. refl) t ts _ rest d,
+      after_target (is_the_punctuator "++") false (λ m. refl) t ts _ rest d,
       inr (
-        after_target (is_mark "--") false (λ m. refl) t ts _ rest d,
+        after_target (is_the_punctuator "--") false (λ m. refl) t ts _ rest d,
         ((t, up_after q), refl, (ts, punctuator q "++" ∷ [], refl, (d, l1, refl), inl (refl, (q, refl, refl)))),
       ),
     )
@@ -126,9 +126,9 @@ change_full n p x front rest (Change.down q t ts d) lt h k =
     let l0 = length-append ts (punctuator q "--" ∷ []) in
     let l1 : length ts < suc n = omega (arith, lt, l0) in
     inr (
-      after_target (is_mark "++") false (λ m. refl) t ts _ rest d,
+      after_target (is_the_punctuator "++") false (λ m. refl) t ts _ rest d,
       inr (
-        after_target (is_mark "--") false (λ m. refl) t ts _ rest d,
+        after_target (is_the_punctuator "--") false (λ m. refl) t ts _ rest d,
         ((t, down_after q), refl, (ts, punctuator q "--" ∷ [], refl, (d, l1, refl), inr (refl, inl (refl, (q, refl, refl))))),
       ),
     )
@@ -139,16 +139,16 @@ change_full n p x front rest (Change.down_before q t ts d) lt h k =
     let l1 : length ts < suc n = omega (arith, lt) in
     inr (refl, inl (refl, ((q, t), refl, (punctuator q "--" ∷ [], ts, refl, refl, (d, l1, k)))))
 
-no_bracket : (rest : List Token) → starts (goes_on 0) rest ≡ false → starts (is_mark "[") rest ≡ false
+no_bracket : (rest : List Token) → starts (goes_on 0) rest ≡ false → starts (is_the_punctuator "[") rest ≡ false
 no_bracket rest h = then_no_bracket 0 rest h
 
 pub change_lawful : (n : ℕ) → Lawful (change_at n) (plain ChangeSpelled) (ChangeBefore n) ChangeSpelled
 change_lawful n =
     recast_plain (change_at n) _ _ (ChangeBefore n) _ ChangeSpelled
-    (choose_lawful (is_mark "++") (mapped up_first (both (word (the_mark "++")) (target_at n))) (choose (is_mark "--") (mapped down_first (both (word (the_mark "--")) (target_at n))) (mapped target_first (both (target_at n) (change_tail_at n)))) _ _ _ _ _ _
-    (mapped_lawful up_first (both (word (the_mark "++")) (target_at n)) _ _ _ (both_lawful (word (the_mark "++")) (target_at n) _ _ _ _ _ _ (word_lawful (the_mark "++") (mark_is_word "++")) (target_lawful n)))
-    (choose_lawful (is_mark "--") (mapped down_first (both (word (the_mark "--")) (target_at n))) (mapped target_first (both (target_at n) (change_tail_at n))) _ _ _ _ _ _
-    (mapped_lawful down_first (both (word (the_mark "--")) (target_at n)) _ _ _ (both_lawful (word (the_mark "--")) (target_at n) _ _ _ _ _ _ (word_lawful (the_mark "--") (mark_is_word "--")) (target_lawful n)))
+    (choose_lawful (is_the_punctuator "++") (mapped up_first (both (word (the_punctuator "++")) (target_at n))) (choose (is_the_punctuator "--") (mapped down_first (both (word (the_punctuator "--")) (target_at n))) (mapped target_first (both (target_at n) (change_tail_at n)))) _ _ _ _ _ _
+    (mapped_lawful up_first (both (word (the_punctuator "++")) (target_at n)) _ _ _ (both_lawful (word (the_punctuator "++")) (target_at n) _ _ _ _ _ _ (word_lawful (the_punctuator "++") (punctuator_is_word "++")) (target_lawful n)))
+    (choose_lawful (is_the_punctuator "--") (mapped down_first (both (word (the_punctuator "--")) (target_at n))) (mapped target_first (both (target_at n) (change_tail_at n))) _ _ _ _ _ _
+    (mapped_lawful down_first (both (word (the_punctuator "--")) (target_at n)) _ _ _ (both_lawful (word (the_punctuator "--")) (target_at n) _ _ _ _ _ _ (word_lawful (the_punctuator "--") (punctuator_is_word "--")) (target_lawful n)))
     (mapped_lawful target_first (both (target_at n) (change_tail_at n)) _ _ _ (both_lawful (target_at n) (change_tail_at n) _ _ _ _ _ _ (target_lawful n) (change_tail_lawful n)))))
     (λ x front rest h. change_full n x.0 x.1 front rest h.0 h.1 h.2 (no_bracket rest h.2))
     change_viable
@@ -160,19 +160,19 @@ abbrev SumTail : Spelled Token (Spelling → Spelling → RawStep)
 SumTail f us = (p : ℕ) (i j : Spelling) → Step (f i j) (name i ∷ punctuator p "=" ∷ name j ∷ us)
 
 abbrev SumF : ℕ → Before Token (Spelling → Spelling → RawStep)
-SumF n = choose_before (is_mark "+") (mapped_before add_after (skip_before (the_mark "+") (ExprBefore n 10))) (mapped_before sub_after (skip_before (the_mark "-") (ExprBefore n 10)))
+SumF n = choose_before (is_the_punctuator "+") (mapped_before add_after (skip_before (the_punctuator "+") (ExprBefore n 10))) (mapped_before sub_after (skip_before (the_punctuator "-") (ExprBefore n 10)))
 
 sum_viable : (f : Spelling → Spelling → RawStep) (front : List Token)
-    → choose_spelled (mapped_spelled add_after (skip_spelled (the_mark "+") (Expression 10))) (mapped_spelled sub_after (skip_spelled (the_mark "-") (Expression 10))) f front → SumTail f front
+    → choose_spelled (mapped_spelled add_after (skip_spelled (the_punctuator "+") (Expression 10))) (mapped_spelled sub_after (skip_spelled (the_punctuator "-") (Expression 10))) f front → SumTail f front
 sum_viable f front (inl (x, y, (q, b, h, d))) = λ p i j. subst (λ g. Step (g i j) (name i ∷ punctuator p "=" ∷ name j ∷ front)) y (subst (λ z. Step (step.SetAdd i j x) (name i ∷ punctuator p "=" ∷ name j ∷ z)) (sym h) (Step.set_add p q i j x b d))
 sum_viable f front (inr (x, y, (q, b, h, d))) = λ p i j. subst (λ g. Step (g i j) (name i ∷ punctuator p "=" ∷ name j ∷ front)) y (subst (λ z. Step (step.SetSub i j x) (name i ∷ punctuator p "=" ∷ name j ∷ z)) (sym h) (Step.set_sub p q i j x b d))
 
 sum_lawful : (n : ℕ) → Lawful (sum_at n) (plain SumTail) (SumF n) SumTail
 sum_lawful n =
     recast_plain (sum_at n) _ _ (SumF n) _ SumTail
-    (choose_lawful (is_mark "+") (mapped add_after (skip (the_mark "+") (product_at n))) (mapped sub_after (skip (the_mark "-") (product_at n))) _ _ _ _ _ _
-    (mapped_lawful add_after (skip (the_mark "+") (product_at n)) _ _ _ (skip_lawful (the_mark "+") (mark_is_word "+") (product_at n) _ _ _ (product_lawful n)))
-    (mapped_lawful sub_after (skip (the_mark "-") (product_at n)) _ _ _ (skip_lawful (the_mark "-") (mark_is_word "-") (product_at n) _ _ _ (product_lawful n))))
+    (choose_lawful (is_the_punctuator "+") (mapped add_after (skip (the_punctuator "+") (product_at n))) (mapped sub_after (skip (the_punctuator "-") (product_at n))) _ _ _ _ _ _
+    (mapped_lawful add_after (skip (the_punctuator "+") (product_at n)) _ _ _ (skip_lawful (the_punctuator "+") (punctuator_is_word "+") (product_at n) _ _ _ (product_lawful n)))
+    (mapped_lawful sub_after (skip (the_punctuator "-") (product_at n)) _ _ _ (skip_lawful (the_punctuator "-") (punctuator_is_word "-") (product_at n) _ _ _ (product_lawful n))))
     (λ f front rest h. h)
     sum_viable
 
@@ -181,16 +181,16 @@ abbrev StepTail : Spelled Token (Spelling → RawStep)
 StepTail f us = (i : Spelling) → Step (f i) (name i ∷ us)
 
 abbrev StepTailV : Spelled Token (Spelling → RawStep)
-StepTailV = choose_spelled (mapped_spelled step_up (word_spelled (the_mark "++")))
-    (choose_spelled (mapped_spelled step_down (word_spelled (the_mark "--")))
-    (choose_spelled (mapped_spelled step_add (skip_spelled (the_mark "+=") (Expression 0)))
-    (choose_spelled (mapped_spelled step_sub (skip_spelled (the_mark "-=") (Expression 0))) (skip_spelled (the_mark "=") (mapped_spelled step_set (both_spelled (word_spelled names) SumTail))))))
+StepTailV = choose_spelled (mapped_spelled step_up (word_spelled (the_punctuator "++")))
+    (choose_spelled (mapped_spelled step_down (word_spelled (the_punctuator "--")))
+    (choose_spelled (mapped_spelled step_add (skip_spelled (the_punctuator "+=") (Expression 0)))
+    (choose_spelled (mapped_spelled step_sub (skip_spelled (the_punctuator "-=") (Expression 0))) (skip_spelled (the_punctuator "=") (mapped_spelled step_set (both_spelled (word_spelled names) SumTail))))))
 
 abbrev StepTailF : ℕ → Before Token (Spelling → RawStep)
-StepTailF n = choose_before (is_mark "++") (mapped_before step_up (plain (word_spelled (the_mark "++"))))
-    (choose_before (is_mark "--") (mapped_before step_down (plain (word_spelled (the_mark "--"))))
-    (choose_before (is_mark "+=") (mapped_before step_add (skip_before (the_mark "+=") (ExprBefore n 0)))
-    (choose_before (is_mark "-=") (mapped_before step_sub (skip_before (the_mark "-=") (ExprBefore n 0))) (skip_before (the_mark "=") (mapped_before step_set (both_before (plain (word_spelled names)) (SumF n)))))))
+StepTailF n = choose_before (is_the_punctuator "++") (mapped_before step_up (plain (word_spelled (the_punctuator "++"))))
+    (choose_before (is_the_punctuator "--") (mapped_before step_down (plain (word_spelled (the_punctuator "--"))))
+    (choose_before (is_the_punctuator "+=") (mapped_before step_add (skip_before (the_punctuator "+=") (ExprBefore n 0)))
+    (choose_before (is_the_punctuator "-=") (mapped_before step_sub (skip_before (the_punctuator "-=") (ExprBefore n 0))) (skip_before (the_punctuator "=") (mapped_before step_set (both_before (plain (word_spelled names)) (SumF n)))))))
 
 step_tail_viable : (f : Spelling → RawStep) (front : List Token) → StepTailV f front → StepTail f front
 step_tail_viable f front (inl (p, y, h)) = λ i. subst (λ g. Step (g i) (name i ∷ front)) y (subst (λ z. Step (step.Up i) (name i ∷ z)) (sym h) (Step.up p i))
@@ -203,15 +203,15 @@ step_tail_viable f front (inr (inr (inr (inr (p, b, h, (s, y, (a, c, k, l, m))))
 step_tail_lawful : (n : ℕ) → Lawful (step_tail_at n) (plain StepTail) (StepTailF n) StepTail
 step_tail_lawful n =
     recast_plain (step_tail_at n) _ _ (StepTailF n) _ StepTail
-    (choose_lawful (is_mark "++") (mapped step_up (word (the_mark "++"))) _ _ _ _ _ _ _
-    (mapped_lawful step_up (word (the_mark "++")) _ _ _ (word_lawful (the_mark "++") (mark_is_word "++")))
-    (choose_lawful (is_mark "--") (mapped step_down (word (the_mark "--"))) _ _ _ _ _ _ _
-    (mapped_lawful step_down (word (the_mark "--")) _ _ _ (word_lawful (the_mark "--") (mark_is_word "--")))
-    (choose_lawful (is_mark "+=") (mapped step_add (skip (the_mark "+=") (expression_at n))) _ _ _ _ _ _ _
-    (mapped_lawful step_add (skip (the_mark "+=") (expression_at n)) _ _ _ (skip_lawful (the_mark "+=") (mark_is_word "+=") (expression_at n) _ _ _ (expression_lawful n)))
-    (choose_lawful (is_mark "-=") (mapped step_sub (skip (the_mark "-=") (expression_at n))) _ _ _ _ _ _ _
-    (mapped_lawful step_sub (skip (the_mark "-=") (expression_at n)) _ _ _ (skip_lawful (the_mark "-=") (mark_is_word "-=") (expression_at n) _ _ _ (expression_lawful n)))
-    (skip_lawful (the_mark "=") (mark_is_word "=") (mapped step_set (both (word names) (sum_at n))) _ _ _
+    (choose_lawful (is_the_punctuator "++") (mapped step_up (word (the_punctuator "++"))) _ _ _ _ _ _ _
+    (mapped_lawful step_up (word (the_punctuator "++")) _ _ _ (word_lawful (the_punctuator "++") (punctuator_is_word "++")))
+    (choose_lawful (is_the_punctuator "--") (mapped step_down (word (the_punctuator "--"))) _ _ _ _ _ _ _
+    (mapped_lawful step_down (word (the_punctuator "--")) _ _ _ (word_lawful (the_punctuator "--") (punctuator_is_word "--")))
+    (choose_lawful (is_the_punctuator "+=") (mapped step_add (skip (the_punctuator "+=") (expression_at n))) _ _ _ _ _ _ _
+    (mapped_lawful step_add (skip (the_punctuator "+=") (expression_at n)) _ _ _ (skip_lawful (the_punctuator "+=") (punctuator_is_word "+=") (expression_at n) _ _ _ (expression_lawful n)))
+    (choose_lawful (is_the_punctuator "-=") (mapped step_sub (skip (the_punctuator "-=") (expression_at n))) _ _ _ _ _ _ _
+    (mapped_lawful step_sub (skip (the_punctuator "-=") (expression_at n)) _ _ _ (skip_lawful (the_punctuator "-=") (punctuator_is_word "-=") (expression_at n) _ _ _ (expression_lawful n)))
+    (skip_lawful (the_punctuator "=") (punctuator_is_word "=") (mapped step_set (both (word names) (sum_at n))) _ _ _
     (mapped_lawful step_set (both (word names) (sum_at n)) _ _ _ (both_lawful (word names) (sum_at n) _ _ _ _ _ _ (word_lawful names name_is_word) (sum_lawful n))))))))
     (λ f front rest h. h)
     step_tail_viable
@@ -220,12 +220,12 @@ abbrev StepBefore : ℕ → Before Token RawStep
 StepBefore n s front rest = Step s front × (length front < suc n) × (starts (goes_on 0) rest ≡ false)
 
 abbrev StepV : Spelled Token RawStep
-StepV = choose_spelled (mapped_spelled step.UpBefore (skip_spelled (the_mark "++") (word_spelled names)))
-    (choose_spelled (mapped_spelled step.DownBefore (skip_spelled (the_mark "--") (word_spelled names))) (mapped_spelled step_of (both_spelled (word_spelled names) StepTail)))
+StepV = choose_spelled (mapped_spelled step.UpBefore (skip_spelled (the_punctuator "++") (word_spelled names)))
+    (choose_spelled (mapped_spelled step.DownBefore (skip_spelled (the_punctuator "--") (word_spelled names))) (mapped_spelled step_of (both_spelled (word_spelled names) StepTail)))
 
 abbrev StepF : ℕ → Before Token RawStep
-StepF n = choose_before (is_mark "++") (mapped_before step.UpBefore (skip_before (the_mark "++") (plain (word_spelled names))))
-    (choose_before (is_mark "--") (mapped_before step.DownBefore (skip_before (the_mark "--") (plain (word_spelled names)))) (mapped_before step_of (both_before (plain (word_spelled names)) (StepTailF n))))
+StepF n = choose_before (is_the_punctuator "++") (mapped_before step.UpBefore (skip_before (the_punctuator "++") (plain (word_spelled names))))
+    (choose_before (is_the_punctuator "--") (mapped_before step.DownBefore (skip_before (the_punctuator "--") (plain (word_spelled names)))) (mapped_before step_of (both_before (plain (word_spelled names)) (StepTailF n))))
 
 step_viable : (x : RawStep) (front : List Token) → StepV x front → Step x front
 step_viable x front (inl (m, y, (p, b, i, j))) = subst (λ z. Step z front) y (subst (Step (step.UpBefore m)) (sym (i ∙ ap (λ z. punctuator p "++" ∷ z) j)) (Step.up_before p m))
@@ -285,10 +285,10 @@ step_full n x front rest (Step.set_sub p q i j e es d) lt h =
 pub step_lawful : (n : ℕ) → Lawful (step_at n) (plain Step) (StepBefore n) Step
 step_lawful n =
     recast_plain (step_at n) _ _ (StepBefore n) _ Step
-    (choose_lawful (is_mark "++") (mapped step.UpBefore (skip (the_mark "++") (word names))) _ _ _ _ _ _ _
-    (mapped_lawful step.UpBefore (skip (the_mark "++") (word names)) _ _ _ (skip_lawful (the_mark "++") (mark_is_word "++") (word names) _ _ _ (word_lawful names name_is_word)))
-    (choose_lawful (is_mark "--") (mapped step.DownBefore (skip (the_mark "--") (word names))) _ _ _ _ _ _ _
-    (mapped_lawful step.DownBefore (skip (the_mark "--") (word names)) _ _ _ (skip_lawful (the_mark "--") (mark_is_word "--") (word names) _ _ _ (word_lawful names name_is_word)))
+    (choose_lawful (is_the_punctuator "++") (mapped step.UpBefore (skip (the_punctuator "++") (word names))) _ _ _ _ _ _ _
+    (mapped_lawful step.UpBefore (skip (the_punctuator "++") (word names)) _ _ _ (skip_lawful (the_punctuator "++") (punctuator_is_word "++") (word names) _ _ _ (word_lawful names name_is_word)))
+    (choose_lawful (is_the_punctuator "--") (mapped step.DownBefore (skip (the_punctuator "--") (word names))) _ _ _ _ _ _ _
+    (mapped_lawful step.DownBefore (skip (the_punctuator "--") (word names)) _ _ _ (skip_lawful (the_punctuator "--") (punctuator_is_word "--") (word names) _ _ _ (word_lawful names name_is_word)))
     (mapped_lawful step_of (both (word names) (step_tail_at n)) _ _ _ (both_lawful (word names) (step_tail_at n) _ _ _ _ _ _ (word_lawful names name_is_word) (step_tail_lawful n)))))
     (λ x front rest h. step_full n x front rest h.0 h.1 h.2)
     step_viable
@@ -313,22 +313,22 @@ optional_lawful s =
 -- ---- headers
 
 abbrev HeaderStepV : Spelled Token RawStep
-HeaderStepV = skip_spelled (the_mark ";") (ends_spelled Step (the_mark ")"))
+HeaderStepV = skip_spelled (the_punctuator ";") (ends_spelled Step (the_punctuator ")"))
 
 abbrev HeaderStepF : ℕ → Before Token RawStep
-HeaderStepF n = skip_before (the_mark ";") (ends_before (StepBefore n) (the_mark ")"))
+HeaderStepF n = skip_before (the_punctuator ";") (ends_before (StepBefore n) (the_punctuator ")"))
 
 abbrev HeaderTestV : Spelled Token (Spelling × ((ℕ × Test) × (RawExpr × RawStep)))
-HeaderTestV = skip_spelled (the_mark ";") (both_spelled (word_spelled names) (both_spelled (word_spelled tests) (both_spelled (Expression 0) HeaderStepV)))
+HeaderTestV = skip_spelled (the_punctuator ";") (both_spelled (word_spelled names) (both_spelled (word_spelled tests) (both_spelled (Expression 0) HeaderStepV)))
 
 abbrev HeaderTestF : ℕ → Before Token (Spelling × ((ℕ × Test) × (RawExpr × RawStep)))
-HeaderTestF n = skip_before (the_mark ";") (both_before (plain (word_spelled names)) (both_before (plain (word_spelled tests)) (both_before (ExprBefore n 0) (HeaderStepF n))))
+HeaderTestF n = skip_before (the_punctuator ";") (both_before (plain (word_spelled names)) (both_before (plain (word_spelled tests)) (both_before (ExprBefore n 0) (HeaderStepF n))))
 
 abbrev pub HeaderF : ℕ → Before Token Header
-HeaderF n = skip_before (the_mark "(") (mapped_before header_of (both_before (mapped_before is_some (maybe_word_before (the_keyword "int"))) (both_before (plain (word_spelled names)) (skip_before (the_mark "=") (both_before (ExprBefore n 0) (HeaderTestF n))))))
+HeaderF n = skip_before (the_punctuator "(") (mapped_before header_of (both_before (mapped_before is_some (maybe_word_before (the_keyword "int"))) (both_before (plain (word_spelled names)) (skip_before (the_punctuator "=") (both_before (ExprBefore n 0) (HeaderTestF n))))))
 
 header_viable : (x : Header) (front : List Token)
-    → skip_spelled (the_mark "(") (mapped_spelled header_of (both_spelled (Optional "int") (both_spelled (word_spelled names) (skip_spelled (the_mark "=") (both_spelled (Expression 0) HeaderTestV))))) x front → ForHeader x front
+    → skip_spelled (the_punctuator "(") (mapped_spelled header_of (both_spelled (Optional "int") (both_spelled (word_spelled names) (skip_spelled (the_punctuator "=") (both_spelled (Expression 0) HeaderTestV))))) x front → ForHeader x front
 header_viable x front (p, f1, i0, (h, y, (bs, f2, i1, bd, (n1, f3, i2, j2, (q, f4, i3, (xs, f5, i4, xd, (r, f6, i5, (n2, f7, i6, j6, (n3, f8, i7, j7, (ys, f9, i8, yd, (u, f10, i9, (w, ss, i10, sd)))))))))))) =
     subst (λ z. ForHeader z front) y
     (subst (ForHeader (header_of h))
@@ -399,23 +399,23 @@ header_full n x front rest (ForHeader.header p q r o u w b i j c y z s bs xs ys 
 pub header_lawful : (n : ℕ) → Lawful (header_at n) (plain ForHeader) (λ x front rest. ForHeader x front × (length front < n)) ForHeader
 header_lawful n =
     recast_plain (header_at n) _ _ _ _ ForHeader
-    (skip_lawful (the_mark "(") (mark_is_word "(") _ _ _ _
-    (mapped_lawful header_of (both (optional (the_keyword "int")) (both (word names) (skip (the_mark "=") (both (expression_at n) (header_test_at n))))) _ _ _
-    (both_lawful (optional (the_keyword "int")) (both (word names) (skip (the_mark "=") (both (expression_at n) (header_test_at n)))) _ _ _ _ _ _ (optional_lawful "int")
-    (both_lawful (word names) (skip (the_mark "=") (both (expression_at n) (header_test_at n))) _ _ _ _ _ _ (word_lawful names name_is_word)
-    (skip_lawful (the_mark "=") (mark_is_word "=") (both (expression_at n) (header_test_at n)) _ _ _
+    (skip_lawful (the_punctuator "(") (punctuator_is_word "(") _ _ _ _
+    (mapped_lawful header_of (both (optional (the_keyword "int")) (both (word names) (skip (the_punctuator "=") (both (expression_at n) (header_test_at n))))) _ _ _
+    (both_lawful (optional (the_keyword "int")) (both (word names) (skip (the_punctuator "=") (both (expression_at n) (header_test_at n)))) _ _ _ _ _ _ (optional_lawful "int")
+    (both_lawful (word names) (skip (the_punctuator "=") (both (expression_at n) (header_test_at n))) _ _ _ _ _ _ (word_lawful names name_is_word)
+    (skip_lawful (the_punctuator "=") (punctuator_is_word "=") (both (expression_at n) (header_test_at n)) _ _ _
     (both_lawful (expression_at n) (header_test_at n) _ _ _ _ _ _ (expression_lawful n) test_part))))))
     (λ x front rest h. header_full n x front rest h.0 h.1)
     header_viable
   where
-    step_part : Lawful (header_step_at n) (skip_before (the_mark ";") (ends_before (plain Step) (the_mark ")"))) (HeaderStepF n) HeaderStepV
-    step_part = skip_lawful (the_mark ";") (mark_is_word ";") (ends (step_at n) (the_mark ")")) _ _ _ (ends_lawful (step_at n) (the_mark ")") (mark_is_word ")") _ _ _ (step_lawful n))
+    step_part : Lawful (header_step_at n) (skip_before (the_punctuator ";") (ends_before (plain Step) (the_punctuator ")"))) (HeaderStepF n) HeaderStepV
+    step_part = skip_lawful (the_punctuator ";") (punctuator_is_word ";") (ends (step_at n) (the_punctuator ")")) _ _ _ (ends_lawful (step_at n) (the_punctuator ")") (punctuator_is_word ")") _ _ _ (step_lawful n))
 
     test_part : Lawful (header_test_at n)
-        (skip_before (the_mark ";") (both_before (plain (word_spelled names)) (both_before (plain (word_spelled tests)) (both_before (plain (Expression 0)) (skip_before (the_mark ";") (ends_before (plain Step) (the_mark ")")))))))
+        (skip_before (the_punctuator ";") (both_before (plain (word_spelled names)) (both_before (plain (word_spelled tests)) (both_before (plain (Expression 0)) (skip_before (the_punctuator ";") (ends_before (plain Step) (the_punctuator ")")))))))
         (HeaderTestF n) HeaderTestV
     test_part =
-        skip_lawful (the_mark ";") (mark_is_word ";") (both (word names) (both (word tests) (both (expression_at n) (header_step_at n)))) _ _ _
+        skip_lawful (the_punctuator ";") (punctuator_is_word ";") (both (word names) (both (word tests) (both (expression_at n) (header_step_at n)))) _ _ _
         (both_lawful (word names) (both (word tests) (both (expression_at n) (header_step_at n))) _ _ _ _ _ _ (word_lawful names name_is_word)
         (both_lawful (word tests) (both (expression_at n) (header_step_at n)) _ _ _ _ _ _ (word_lawful tests test_is_word)
         (both_lawful (expression_at n) (header_step_at n) _ _ _ _ _ _ (expression_lawful n) step_part)))

@@ -1,0 +1,129 @@
+//! The load of a list of tokens: what an unfinished statement and the lists around it hold.
+ghost use Rattle.std.specs.Prelude.{◌≡◌, ◌<◌, ◌^◌, IfOk};
+ghost use Rattle.species_ast.specs.Text.Load.{spelling_of, is_spelled, is_else_next, first_above};
+ghost use Rattle.species_lexer.specs.Tokens.{seen_token};
+ghost use Rattle.species_parser.specs.Given.{seen_tokens};
+ghost use Rattle.species_parser.specs.Loaded.{empty_load};
+
+use species_lexer::{Token, TokenKind};
+use std::alloc::{AllocError, Global};
+use std::marker::Model;
+
+/// The limit on the load, in tokens.
+const LOAD_LIMIT: u32 = 2_000;
+
+/// The spelling of a keyword or punctuator, and nothing for other tokens.
+fn spelling<'a>(token: &Token<'a>) -> &'a [u8]
+    ensures { result.now ≡ spelling_of token.now.kind token.now.text.now }
+{
+    match token.kind {
+        TokenKind::Keyword | TokenKind::Punct => token.text,
+        TokenKind::Name
+        | TokenKind::Number(_)
+        | TokenKind::Include
+        | TokenKind::Define(_)
+        | TokenKind::Species
+        | TokenKind::Parallel(_, _)
+        | TokenKind::Atomic => b"",
+    }
+}
+
+fn is_spelled(token: &Token<'_>, text: &[u8]) -> bool
+    ensures { result ≡ is_spelled (seen_token token.now) text.now }
+{
+    spelling(token) == text
+}
+
+fn is_else_next(tokens: &[Token<'_>]) -> bool
+    ensures { result ≡ is_else_next (seen_tokens tokens.now) }
+{
+    match tokens {
+        [next, ..] => is_spelled(next, b"else"),
+        [] => false,
+    }
+}
+
+/// The load, what it was behind each `{` that is not closed, and how many `(` are not closed.
+/// Contracts see the load behind the last `{` first.
+#[derive(Drop)]
+struct Load {
+    load: u32,
+    blocks: Vec<u32>,
+    brackets: usize,
+}
+
+impl Model for Load {
+    ghost use Rattle.std.specs.Prelude.{reverse};
+    ghost use Rattle.species_ast.specs.Text.Load as text;
+
+    ghost Value = { text.Load };
+
+    ghost view = { λ l. record { load = l.load; blocks = reverse l.blocks.items; brackets = l.brackets } };
+}
+
+impl Load {
+    ghost use Rattle.std.specs.Prelude.{◌+◌, OnOk};
+    ghost use Rattle.species_ast.specs.Text.Load.{counted, is_end, settled};
+
+    fn new(alloc: Global) -> Load
+        ensures { result ≡ empty_load }
+    {
+        Load {
+            load: 0,
+            blocks: Vec::new(alloc),
+            brackets: 0,
+        }
+    }
+
+    /// Adds a token, and what it opens or closes.
+    fn count(&mut self, token: &Token<'_>) -> Result<(), AllocError>
+        requires small { self.old.load + 1 < 2 ^ 32 }
+        requires few { self.old.brackets + 1 < 2 ^ 64 }
+        ensures { OnOk result (self.new ≡ counted (seen_token token.now) self.old) }
+    {
+        self.load += 1;
+        if is_spelled(token, b"{") {
+            self.blocks.push(self.load)?;
+        } else if is_spelled(token, b"}") {
+            self.blocks.pop();
+        } else if is_spelled(token, b"(") {
+            self.brackets += 1;
+        } else if is_spelled(token, b")") {
+            self.brackets = self.brackets.saturating_sub(1);
+        }
+        Ok(())
+    }
+
+    fn is_end(&self, token: &Token<'_>) -> bool
+        ensures { result ≡ is_end (seen_token token.now) self.now }
+    {
+        is_spelled(token, b"}") || (is_spelled(token, b";") && self.brackets == 0)
+    }
+
+    /// Ends what a token that was counted ends.
+    fn settle(&mut self, token: &Token<'_>, rest: &[Token<'_>])
+        ensures { self.new ≡ settled (seen_token token.now) (seen_tokens rest.now) self.old }
+    {
+        if self.is_end(token) && !is_else_next(rest) {
+            self.load = match self.blocks.last() {
+                Some(load) => *load,
+                None => 0,
+            };
+        }
+    }
+}
+
+/// The place of the first token with which the load is above its limit.
+pub(crate) fn load_refusal(alloc: Global, tokens: &[Token<'_>]) -> Result<Option<u32>, AllocError>
+    ensures { IfOk result (λ place. place ≡ first_above 2000 empty_load (seen_tokens tokens.now)) }
+{
+    let mut load = Load::new(alloc);
+    for (index, token) in tokens.iter().enumerate() {
+        load.count(token)?;
+        if load.load > LOAD_LIMIT {
+            return Ok(Some(token.place));
+        }
+        load.settle(token, &tokens[index + 1..]);
+    }
+    Ok(None)
+}
