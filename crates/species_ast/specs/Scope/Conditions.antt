@@ -13,7 +13,7 @@ use Rattle.species_ast.specs.Scope.Hulls.{passes_hull}
 use Rattle.species_ast.specs.Scope.Magnitudes.{passes_bound}
 use Rattle.species_ast.specs.Scope.Limits.{most_references, has_too_many_dimensions, has_lawful_sizes, goes, is_too_deep, is_too_far}
 use Rattle.species_ast.specs.Scope.Nests.{front_of, is_bad_mark}
-use Rattle.species_ast.specs.Scope.Loops.{Nest, nests_of}
+use Rattle.species_ast.specs.Scope.Loops.{PlacedLoop, placed_loops}
 use Rattle.species_ast.specs.Scope.References.{larger_than}
 use Rattle.species_ast.specs.Scope.Programs.{Program, iterators_of, program_of}
 use Rattle.species_ast.specs.Scope.Refusals.{Limit, Refusal, Finding, first_of_groups, refused_at, places_where}
@@ -128,27 +128,27 @@ abbrev pub too_many_elements : Program → List ℕ
 too_many_elements p = places_where (λ a. not (has_lawful_sizes a.array)) (λ a. a.name.place) p.arrays
 
 -- the `for` of each loop of a unit of which a condition holds
-abbrev pub loops_where : (Nest → Bool) → Unit → List ℕ
-loops_where holds u = places_where holds (λ n. (out-Loop n.head).place) (nests_of u)
+abbrev pub loops_where : (PlacedLoop → Bool) → Unit → List ℕ
+loops_where holds u = places_where holds (λ x. (out-Loop x.head).place) (placed_loops u)
 
 -- LimitPassed(Loops): a loop stands inside eight others
 abbrev pub too_deep : Unit → List ℕ
-too_deep u = loops_where (λ n. is_too_deep n.stands.around.level) u
+too_deep u = loops_where (λ x. is_too_deep x.stands.around.level) u
 
 -- LimitPassed(Step)
 abbrev pub too_far : Unit → List ℕ
-too_far u = loops_where (λ n. is_too_far (out-Loop n.head).step) u
+too_far u = loops_where (λ x. is_too_far (out-Loop x.head).step) u
 
 -- LimitPassed(Hull) and LimitPassed(Bound): asked of a loop only where no loop around it passes these or Loops
 abbrev pub past_hull : Unit → List ℕ
-past_hull u = loops_where (λ n. not n.stands.passed && passes_hull n.stands.around.path (out-Loop n.head)) u
+past_hull u = loops_where (λ x. not x.stands.passed && passes_hull x.stands.around.path (out-Loop x.head)) u
 
 abbrev pub past_bound : Unit → List ℕ
-past_bound u = loops_where (λ n. not n.stands.passed && passes_bound n.stands.around.path (out-Loop n.head)) u
+past_bound u = loops_where (λ x. not x.stands.passed && passes_bound x.stands.around.path (out-Loop x.head)) u
 
 -- BadMark: a parallel mark stands inside a parallel nest or does not fit
 abbrev pub bad_mark : Unit → List ℕ
-bad_mark u = loops_where (λ n. is_bad_mark n.stands.around.in_nest n.stands.around.level (out-Loop n.head).mark (front_of n.head)) u
+bad_mark u = loops_where (λ x. is_bad_mark x.stands.around.in_nest x.stands.around.level (out-Loop x.head).mark (front_of x.head)) u
 
 -- what is refused of the arrays of a program, and of the loops of its unit
 abbrev pub refused_arrays : Program → List Finding

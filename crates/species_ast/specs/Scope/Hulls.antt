@@ -1,6 +1,6 @@
 -- Hulls: the ranges in which the iterators of loops lie, each from the ranges of the loops around it.
-use Rattle.std.specs.Prelude.{ℕ, ◌/◌, Bool, true, false, ◌&&◌, ◌||◌, not, nat_le, if◌then◌else◌, List, [], ◌∷◌, ℤ, pos, negsuc, ◌+ℤ◌, ◌-ℤ◌, ◌*ℤ◌, int_lt, int_le, unsigned_abs, Option, Some, None}
-use Rattle.std.specs.List.{list_all, list_any}
+use Rattle.std.specs.Prelude.{ℕ, ◌/◌, Bool, true, ◌&&◌, not, nat_le, if◌then◌else◌, List, [], ◌∷◌, ℤ, pos, negsuc, ◌+ℤ◌, ◌-ℤ◌, ◌*ℤ◌, int_lt, int_le, unsigned_abs, Option, Some, None}
+use Rattle.std.specs.List.{list_any}
 use Rattle.species_ast.specs.declared.tree.Test.{Test}
 use Rattle.species_ast.specs.declared.tree.Test.TheVariants.{Lt, Le, Gt, Ge}
 use Rattle.species_ast.specs.declared.tree.Expr.{Expr}
@@ -28,10 +28,12 @@ has_empty path = list_any is_empty path
 
 -- the least and the greatest product of a coefficient and an iterator: at an end of its range
 abbrev pub least_product : ℤ → Range → ℤ
-least_product c r = if int_lt c (pos 0) then c *ℤ r.high else c *ℤ r.low
+least_product (pos n) r = pos n *ℤ r.low
+least_product (negsuc n) r = negsuc n *ℤ r.high
 
 abbrev pub greatest_product : ℤ → Range → ℤ
-greatest_product c r = if int_lt c (pos 0) then c *ℤ r.low else c *ℤ r.high
+greatest_product (pos n) r = pos n *ℤ r.high
+greatest_product (negsuc n) r = negsuc n *ℤ r.low
 
 abbrev pub least_sum : List ℤ → List Range → ℤ
 least_sum [] path = pos 0

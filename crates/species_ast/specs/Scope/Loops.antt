@@ -30,7 +30,7 @@ pub record Standing : Type 0 where
   pub passed : Bool
 
 -- A loop where it stands.
-pub record Nest : Type 0 where
+pub record PlacedLoop : Type 0 where
   pub head : Loop
   pub stands : Standing
 
@@ -44,36 +44,36 @@ standing_in l s = record s { around = entered l s.around; passed = s.passed || p
 abbrev pub numbered : Standing → ℕ → Standing
 numbered s k = record s { statement = s.statement ++ k ∷ [] }
 
-abbrev pub NestsIn : Type 0
-NestsIn = Standing → List Nest
+abbrev pub Placing : Type 0
+Placing = Standing → List PlacedLoop
 
 -- the statements of a list, of which the first has number k inside the statement around it
-abbrev pub list_nests : List NestsIn → Standing → ℕ → List Nest
-list_nests [] s k = []
-list_nests (x ∷ xs) s k = x (numbered s k) ++ list_nests xs s (suc k)
+abbrev pub list_loops : List Placing → Standing → ℕ → List PlacedLoop
+list_loops [] s k = []
+list_loops (x ∷ xs) s k = x (numbered s k) ++ list_loops xs s (suc k)
 
-abbrev pub nests_at : Stmt-F (Stmt × NestsIn) (Loop × NestsIn) → NestsIn
-nests_at (Stmt-F.Assign place a subs value) s = []
-nests_at (Stmt-F.AddTo place a subs value atomic) s = []
-nests_at (Stmt-F.Declare place x init) s = []
-nests_at (Stmt-F.SetLocal place x value) s = []
-nests_at (Stmt-F.If place test body otherwise) s = list_nests (map (λ x. x.1) body) s 0 ++ list_nests (map (λ x. x.1) otherwise) s (length body)
-nests_at (Stmt-F.For l) s = record { head = l.0; stands = s } ∷ l.1 s
-nests_at (Stmt-F.Block body) s = list_nests (map (λ x. x.1) body) s 0
+abbrev pub loops_at : Stmt-F (Stmt × Placing) (Loop × Placing) → Placing
+loops_at (Stmt-F.Assign place a subs value) s = []
+loops_at (Stmt-F.AddTo place a subs value atomic) s = []
+loops_at (Stmt-F.Declare place x init) s = []
+loops_at (Stmt-F.SetLocal place x value) s = []
+loops_at (Stmt-F.If place test body otherwise) s = list_loops (map (λ x. x.1) body) s 0 ++ list_loops (map (λ x. x.1) otherwise) s (length body)
+loops_at (Stmt-F.For l) s = record { head = l.0; stands = s } ∷ l.1 s
+loops_at (Stmt-F.Block body) s = list_loops (map (λ x. x.1) body) s 0
 
-abbrev pub nests_inside : Loop-F (Stmt × NestsIn) (Loop × NestsIn) → NestsIn
-nests_inside l s = list_nests (map (λ x. x.1) l.body) (standing_in l s) 0
+abbrev pub loops_inside : Loop-F (Stmt × Placing) (Loop × Placing) → Placing
+loops_inside l s = list_loops (map (λ x. x.1) l.body) (standing_in l s) 0
 
 -- the loops in a statement, in the order of the text
-abbrev pub nests : Stmt → NestsIn
-nests = para-Stmt NestsIn NestsIn nests_at nests_inside
+abbrev pub loops_in : Stmt → Placing
+loops_in = para-Stmt Placing Placing loops_at loops_inside
 
 abbrev pub outside_loops : Standing
 outside_loops = record { statement = []; around = no_loops; passed = false }
 
 -- The loops of a unit, in the order of the text.
-abbrev pub nests_of : Unit → List Nest
-nests_of u = list_nests (map nests u.body) outside_loops 0
+abbrev pub placed_loops : Unit → List PlacedLoop
+placed_loops u = list_loops (map loops_in u.body) outside_loops 0
 
 -- ---- outermost loops
 
