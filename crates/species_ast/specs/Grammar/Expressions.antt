@@ -1,9 +1,9 @@
 -- Expressions (C17 6.5): which lists of tokens derive which expression.
-use Rattle.std.specs.Prelude.{ℕ, suc, List, [], ◌∷◌, ◌++◌}
+use Rattle.std.specs.Prelude.{ℕ, suc, Bool, List, [], ◌∷◌, ◌++◌}
 use Prim.Native.String.{String}
 use Rattle.species_ast.specs.Token.{Token}
 use Rattle.species_ast.specs.Spelling.{Spelling}
-use Rattle.species_ast.specs.Grammar.Words.{punctuator, keyword, name, number}
+use Rattle.species_ast.specs.Grammar.Words.{punctuator, keyword, name, number, Optional}
 use Rattle.species_ast.specs.declared.tree.Kind.{Kind}
 use Rattle.species_ast.specs.declared.tree.Kind.TheVariants as kind
 use Rattle.species_ast.specs.declared.tree.Value.{Value}
@@ -26,6 +26,11 @@ pub data TypeSpecifier : ℕ → Kind → List Token → Type 0 where
   unsigned : (p : ℕ) → TypeSpecifier p kind.Unsigned (keyword p "unsigned" ∷ [])
   -- `unsigned int`
   unsigned_int : (p q : ℕ) → TypeSpecifier p kind.Unsigned (keyword p "unsigned" ∷ keyword q "int" ∷ [])
+  -- `long long`, and `int` behind it or not
+  long : (p q : ℕ) (i : Bool) (ts : List Token) → Optional "int" i ts → TypeSpecifier p kind.Long (keyword p "long" ∷ keyword q "long" ∷ ts)
+  -- `unsigned long long`, and `int` behind it or not
+  unsigned_long : (p q r : ℕ) (i : Bool) (ts : List Token) → Optional "int" i ts
+      → TypeSpecifier p kind.UnsignedLong (keyword p "unsigned" ∷ keyword q "long" ∷ keyword r "long" ∷ ts)
 
 -- ---- operators
 
