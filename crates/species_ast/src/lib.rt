@@ -4,6 +4,7 @@
 //! a list of children is a list, a child is a value, and a name is the list of its bytes.
 #![tactic(auto)]
 
+mod action;
 mod copies;
 mod memory;
 mod raw;
@@ -15,6 +16,7 @@ mod token;
 mod trap;
 mod tree;
 
+pub use action::Action;
 pub use copies::{copy, copy_expr, copy_exprs, copy_loop, copy_stmt, copy_stmts};
 pub use memory::OutOfMemory;
 pub use raw::{
