@@ -1,6 +1,7 @@
 pub mod AccessLaws
 pub mod ArrayLaws
 pub mod Cutting
+pub mod Extent
 mod Examples
 pub mod FirstRefusal
 pub mod Folds
