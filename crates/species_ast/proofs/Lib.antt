@@ -2,6 +2,8 @@ pub mod AccessLaws
 pub mod ArrayLaws
 pub mod Cutting
 mod Examples
+mod HullExamples
+pub mod HullLaws
 pub mod FirstRefusal
 pub mod Folds
 pub mod Grammar
@@ -15,3 +17,4 @@ mod ScopeExamples
 pub mod ScopeLaws
 mod ScopeParts
 pub mod StripLaws
+pub mod Paras
