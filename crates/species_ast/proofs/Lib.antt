@@ -3,6 +3,8 @@ pub mod ArrayLaws
 pub mod Cutting
 pub mod Extent
 mod Examples
+mod HullExamples
+pub mod HullLaws
 pub mod FirstRefusal
 pub mod Folds
 pub mod Grammar
@@ -16,3 +18,4 @@ mod ScopeExamples
 pub mod ScopeLaws
 mod ScopeParts
 pub mod StripLaws
+pub mod Paras

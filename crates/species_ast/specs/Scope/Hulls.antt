@@ -1,5 +1,5 @@
 -- Hulls: the ranges in which the iterators of loops lie, each from the ranges of the loops around it.
-use Rattle.std.specs.Prelude.{ℕ, ◌/◌, Bool, true, ◌&&◌, not, nat_le, if◌then◌else◌, List, [], ◌∷◌, ℤ, pos, negsuc, ◌+ℤ◌, ◌-ℤ◌, ◌*ℤ◌, int_lt, int_le, unsigned_abs, Option, Some, None}
+use Rattle.std.specs.Prelude.{ℕ, ◌/◌, Bool, true, ◌&&◌, not, nat_le, if◌then◌else◌, List, [], ◌∷◌, ℤ, pos, negsuc, ◌+ℤ◌, ◌-ℤ◌, ◌*ℤ◌, ◌≤ℤ◌, int_lt, int_le, unsigned_abs, Option, Some, None}
 use Rattle.std.specs.List.{list_any}
 use Rattle.species_ast.specs.declared.tree.Test.{Test}
 use Rattle.species_ast.specs.declared.tree.Test.TheVariants.{Lt, Le, Gt, Ge}
@@ -23,6 +23,13 @@ is_empty r = int_lt r.high r.low
 -- a loop of these, one in the other, has no turn
 abbrev pub has_empty : List Range → Bool
 has_empty path = list_any is_empty path
+
+-- the iterators of loops, one in the other, lie in these ranges
+abbrev pub AreIn : List Range → List ℤ → Type 0
+AreIn [] [] = Unit {0}
+AreIn [] (i ∷ is) = ⊥
+AreIn (r ∷ path) [] = ⊥
+AreIn (r ∷ path) (i ∷ is) = (r.low ≤ℤ i) × (i ≤ℤ r.high) × AreIn path is
 
 -- ---- extremes
 
@@ -92,8 +99,12 @@ range_between path step first last =
     else (if has_empty path then no_range step first last else wide_range path step first last)
 
 -- the form of a bound; one that is not affine, which no lawful loop has, counts as 0
+abbrev pub form_or_zero : Option Form → Form
+form_or_zero (Some f) = f
+form_or_zero None = constant_form (pos 0)
+
 abbrev pub bound_form : Expr → Form
-bound_form e = elim (form_of e) [ Some f ↦ f | None ↦ constant_form (pos 0) ]
+bound_form e = form_or_zero (form_of e)
 
 -- The range of the iterator of a loop in loops with these ranges. The hull of a loop is empty where this range or one around it is.
 abbrev pub range_of : {X Y : Type 0} → List Range → Loop-F X Y → Range
