@@ -7,7 +7,7 @@ use Rattle.std.proofs.lemmas.Bool.Decides.{nat_tests}
 use Rattle.species_ast.specs.declared.tree.Kind.{Kind}
 use Rattle.species_ast.specs.declared.tree.Kind.TheVariants as kind
 use Rattle.species_ast.specs.declared.tree.Value.{Value}
-use Rattle.species_ast.specs.declared.tree.Value.TheVariants.{Int}
+use Rattle.species_ast.specs.declared.tree.Value.TheVariants.{Int, Long}
 use Rattle.species_ast.specs.declared.tree.Unary.{Unary}
 use Rattle.species_ast.specs.declared.tree.Unary.TheVariants.{Neg, Not, LogNot}
 use Rattle.species_ast.specs.declared.tree.Binary.{Binary}
@@ -42,6 +42,8 @@ AnswerOf k (Err why) = Unit {0}
 pub kind-in_kind : (k : Kind) (n : ℤ) → kind_of (in_kind k n) ≡ k
 kind-in_kind kind.Int n = refl
 kind-in_kind kind.Unsigned n = refl
+kind-in_kind kind.Long n = refl
+kind-in_kind kind.UnsignedLong n = refl
 
 kind-truth : (b : Bool) → kind_of (truth b) ≡ kind.Int
 kind-truth true = refl
@@ -54,6 +56,8 @@ one_of k false a b p q = q
 kind-exact : (k : Kind) (n : ℤ) → AnswerOf k (exact_in k n)
 kind-exact kind.Int n = one_of kind.Int (fits 32 n) (Ok (Int n)) (Err Overflow) refl tt
 kind-exact kind.Unsigned n = refl
+kind-exact kind.Long n = one_of kind.Long (fits 64 n) (Ok (Long n)) (Err Overflow) refl tt
+kind-exact kind.UnsignedLong n = refl
 
 kind-quotient : (k : Kind) (a b : ℤ) → AnswerOf k (quotient k a b)
 kind-quotient k a b = one_of k (int_eq b (pos 0)) (Err DivZero) (exact_in k (int_div a b)) tt (kind-exact k (int_div a b))

@@ -1,8 +1,8 @@
 -- Expressions (C17 6.5): which lists of tokens derive which expression.
-use Rattle.std.specs.Prelude.{ℕ, suc, List, [], ◌∷◌, ◌++◌}
+use Rattle.std.specs.Prelude.{ℕ, suc, Bool, List, [], ◌∷◌, ◌++◌}
 use Rattle.species_ast.specs.Token.{Token}
 use Rattle.species_ast.specs.Spelling.{Spelling}
-use Rattle.species_ast.specs.Grammar.Words.{sign, punctuator, keyword, name, number}
+use Rattle.species_ast.specs.Grammar.Words.{sign, punctuator, keyword, name, number, Optional}
 use Rattle.species_ast.specs.Signs.{conditional_level, or_level, and_level, cast_level, primary_level, binary_level, binary_sign, and_sign, or_sign, raw_unary_sign}
 use Rattle.species_ast.specs.declared.tree.Kind.{Kind}
 use Rattle.species_ast.specs.declared.tree.Kind.TheVariants as kind
@@ -24,6 +24,11 @@ pub data TypeSpecifier : ℕ → Kind → List Token → Type 0 where
   unsigned : (p : ℕ) → TypeSpecifier p kind.Unsigned (keyword p "unsigned" ∷ [])
   -- `unsigned int`
   unsigned_int : (p q : ℕ) → TypeSpecifier p kind.Unsigned (keyword p "unsigned" ∷ keyword q "int" ∷ [])
+  -- `long long`, and `int` behind it or not
+  long : (p q : ℕ) (i : Bool) (ts : List Token) → Optional "int" i ts → TypeSpecifier p kind.Long (keyword p "long" ∷ keyword q "long" ∷ ts)
+  -- `unsigned long long`, and `int` behind it or not
+  unsigned_long : (p q r : ℕ) (i : Bool) (ts : List Token) → Optional "int" i ts
+      → TypeSpecifier p kind.UnsignedLong (keyword p "unsigned" ∷ keyword q "long" ∷ keyword r "long" ∷ ts)
 
 -- ---- operators
 

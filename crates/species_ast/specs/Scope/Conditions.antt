@@ -49,7 +49,7 @@ is_miscounted o = is_miscounted_as o.role (usable o.means)
 
 abbrev pub is_int : Kind → Bool
 is_int kind.Int = true
-is_int kind.Unsigned = false
+is_int k = false
 
 -- a loop without `int` may have a name as its iterator that is an `int` local without an initialiser, and not already
 -- the iterator of a loop around it
