@@ -4,6 +4,7 @@ pub mod Cutting
 mod Examples
 mod HullExamples
 pub mod HullLaws
+pub mod LimitLaws
 pub mod FirstRefusal
 pub mod Folds
 pub mod Grammar
@@ -16,5 +17,6 @@ mod ScopeCases
 mod ScopeExamples
 pub mod ScopeLaws
 mod ScopeParts
+pub mod StripKeeps
 pub mod StripLaws
 pub mod Paras
