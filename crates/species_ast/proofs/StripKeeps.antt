@@ -1,20 +1,19 @@
 -- Stripping keeps a unit well made, and keeps its size.
-use Rattle.std.proofs.Common.{◌≡◌, ◌∙◌, ap, refl, sym, subst, ℕ, suc, Bool, true, false, ◌&&◌, ◌||◌, not, if◌then◌else◌, List, [], ◌∷◌, ◌++◌, map, flat_map, length, Option, Some, None}
+use Rattle.std.proofs.Common.{◌≡◌, ◌∙◌, ap, refl, sym, subst, ℕ, suc, Bool, true, false, ◌||◌, not, if◌then◌else◌, List, [], ◌∷◌, ◌++◌, map, flat_map, length, None}
 use Rattle.std.specs.Prelude.{nat_lt, IsTrue}
-use Rattle.std.specs.List.{list_all, filter}
+use Rattle.std.specs.List.{filter}
 use Rattle.std.proofs.lemmas.Bool.{and_parts, and_from}
 use Rattle.species_ast.specs.declared.tree.Expr.{Expr}
-use Rattle.species_ast.specs.declared.tree.Mark.{Mark}
 use Rattle.species_ast.specs.declared.tree.Mark.TheVariants.{Plain}
-use Rattle.species_ast.specs.declared.tree.Stmt.{Stmt, roll-Stmt, fold-Stmt, fold-roll-Stmt, para-roll-Stmt}
+use Rattle.species_ast.specs.declared.tree.Stmt.{Stmt, fold-Stmt, fold-roll-Stmt, para-roll-Stmt}
 use Rattle.species_ast.specs.declared.tree.Stmt.TheOpen.{Stmt-F, Loop-F}
 use Rattle.species_ast.specs.declared.tree.Stmt.TheVariants as stmt
 use Rattle.species_ast.specs.declared.tree.Loop.{Loop, roll-Loop, fold-Loop, out-Loop}
 use Rattle.species_ast.specs.declared.tree.Unit.{Unit as Program}
 use Rattle.species_ast.specs.Strip.{strip_step, strip_layer, strip_stmt, strip_loop, strip_of}
-use Rattle.species_ast.specs.Run.{locals_at, locals_of, locals_in}
-use Rattle.species_ast.specs.Scope.Loops.{Nesting, no_loops, entered, outermost_at, outermost_in, outermost_loops}
-use Rattle.species_ast.specs.Scope.References.{Referring, no_adds, references_at, references_inside, stmt_references, loop_references, references_of, reference_count, larger_than, HasReadSize}
+use Rattle.species_ast.specs.Run.{locals_at, locals_of}
+use Rattle.species_ast.specs.Scope.Loops.{outermost_at, outermost_in, outermost_loops}
+use Rattle.species_ast.specs.Scope.References.{Referring, no_adds, references_at, references_inside, stmt_references, loop_references, reference_count, larger_than, HasReadSize}
 use Rattle.species_ast.specs.Scope.Nests.{Bounds, only_loops, front_with, is_parallel, is_bad_mark}
 use Rattle.species_ast.specs.Scope.Hulls.{Range, range_of, passes_hull}
 use Rattle.species_ast.specs.Scope.Magnitudes.{passes_bound}
@@ -22,8 +21,8 @@ use Rattle.species_ast.specs.Scope.Limits.{goes, is_too_deep, is_too_far, most_r
 use Rattle.species_ast.specs.Scope.Refusals.{places_where}
 use Rattle.species_ast.specs.Scope.WellMade.{Around, Made, made, made_at, made_loop, list_holds, list_keeps, fronts_of, head_holds, head_keeps, is_made, is_made_bound, is_declared_once, outermost, IsWellMade}
 use Rattle.species_ast.proofs.Folds.{fold_stmt-Assign, fold_stmt-AddTo, fold_stmt-Declare, fold_stmt-SetLocal, fold_stmt-If, fold_stmt-For, fold_stmt-Block, fold_loop, fold_loop-out}
-use Rattle.species_ast.proofs.Induction.{Each, each_all, StmtCases, stmt_ind, map-each}
-use Rattle.species_ast.proofs.Paras.{beside, seconds, para_stmt-Assign, para_stmt-AddTo, para_stmt-Declare, para_stmt-SetLocal, para_stmt-If, para_stmt-For, para_stmt-Block, para_loop}
+use Rattle.species_ast.proofs.Induction.{Each, each_all, StmtCases, stmt_ind}
+use Rattle.species_ast.proofs.Paras.{beside, para_stmt-Assign, para_stmt-AddTo, para_stmt-Declare, para_stmt-SetLocal, para_stmt-If, para_stmt-For, para_stmt-Block}
 
 -- a loop's layer as stripping leaves it, and with another body
 abbrev stripped_layer : {X Y : Type 0} → Bool → Loop-F X Y → Loop-F X Y
@@ -64,11 +63,11 @@ unchanged {X} {Y} step at keep added headed =
       loop = λ l h.
           ap fold (fold_stmt-For strip_step layer (roll-Loop l)) ∙ rolled (Stmt-F.For (strip_loop keep (roll-Loop l)))
           ∙ ap (λ z. step (Stmt-F.For z)) (
-              ap (fold-Loop X Y step at) (fold_loop strip_step layer l)
-              ∙ fold_loop step at (stripped_layer keep (with_body l (map (strip_stmt keep) l.body)))
-              ∙ headed (with_body l (map fold (map (strip_stmt keep) l.body)))
-              ∙ ap (λ b. at (with_body l b)) (map-map fold (strip_stmt keep) l.body h)
-              ∙ sym (fold_loop step at l))
+          ap (fold-Loop X Y step at) (fold_loop strip_step layer l)
+          ∙ fold_loop step at (stripped_layer keep (with_body l (map (strip_stmt keep) l.body)))
+          ∙ headed (with_body l (map fold (map (strip_stmt keep) l.body)))
+          ∙ ap (λ b. at (with_body l b)) (map-map fold (strip_stmt keep) l.body h)
+          ∙ sym (fold_loop step at l))
           ∙ sym (fold_stmt-For step at (roll-Loop l));
       block = λ body h.
           ap fold (fold_stmt-Block strip_step layer body) ∙ rolled (Stmt-F.Block (map (strip_stmt keep) body))
@@ -141,8 +140,8 @@ strip-count : (keep : Bool) (l : Loop) → reference_count (strip_loop keep l) �
 strip-count keep l =
     let at : Stmt-F Referring Referring → Referring = references_at no_adds in
     let same : loop_references no_adds (strip_loop keep l) ≡ loop_references no_adds l =
-        sym (ap (stmt_references no_adds) (fold_stmt-For strip_step (strip_layer keep) l) ∙ fold-roll-Stmt Referring Referring at (references_inside no_adds) (Stmt-F.For (strip_loop keep l)))
-        ∙ strip-references keep (stmt.For l) ∙ fold_stmt-For at (references_inside no_adds) l in
+    sym (ap (stmt_references no_adds) (fold_stmt-For strip_step (strip_layer keep) l) ∙ fold-roll-Stmt Referring Referring at (references_inside no_adds) (Stmt-F.For (strip_loop keep l)))
+    ∙ strip-references keep (stmt.For l) ∙ fold_stmt-For at (references_inside no_adds) l in
     ap (λ f. length (f (record { statement = []; path = []; conditional = false }) 1)) same
 
 places_map : {X : Type 0} (holds : X → Bool) (place : X → ℕ) (f : X → X) → ((x : X) → holds (f x) ≡ holds x) → ((x : X) → place (f x) ≡ place x)
