@@ -5,6 +5,7 @@ pub mod Extent
 mod Examples
 mod HullExamples
 pub mod HullLaws
+pub mod LimitLaws
 pub mod FirstRefusal
 pub mod Folds
 pub mod Grammar
@@ -17,5 +18,6 @@ mod ScopeCases
 mod ScopeExamples
 pub mod ScopeLaws
 mod ScopeParts
+pub mod StripKeeps
 pub mod StripLaws
 pub mod Paras
