@@ -2,6 +2,9 @@ pub mod AccessLaws
 pub mod ArrayLaws
 pub mod Cutting
 mod Examples
+mod HullExamples
+pub mod HullLaws
+pub mod LimitLaws
 pub mod FirstRefusal
 pub mod Folds
 pub mod Grammar
@@ -14,4 +17,6 @@ mod ScopeCases
 mod ScopeExamples
 pub mod ScopeLaws
 mod ScopeParts
+pub mod StripKeeps
 pub mod StripLaws
+pub mod Paras
