@@ -1,0 +1,4 @@
+pub mod AppliedLaws
+pub mod EveryLaws
+pub mod IndexLaws
+pub mod WalkLaws
