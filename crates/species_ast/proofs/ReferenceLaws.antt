@@ -5,7 +5,7 @@ use Rattle.species_ast.specs.declared.tree.Expr.TheVariants as expr
 use Rattle.species_ast.specs.Scope.Forms.{Form, form_of}
 use Rattle.species_ast.specs.Scope.References.{Where, Reference, perhaps, Elements, no_elements, then_elements, on_condition, all_elements, element_with, elements_at, elements_of}
 use Rattle.species_ast.proofs.Induction.{Each, expr_ind}
-use Rattle.species_ast.proofs.Paras.{beside, firsts, seconds, para_expr-Literal, para_expr-Iter, para_expr-Local, para_expr-Elem, para_expr-Unary, para_expr-Binary, para_expr-And, para_expr-Or, para_expr-Cond, para_expr-Cast}
+use Rattle.species_ast.proofs.Paras.{firsts, seconds, para_expr-Literal, para_expr-Iter, para_expr-Local, para_expr-Elem, para_expr-Unary, para_expr-Binary, para_expr-And, para_expr-Or, para_expr-Cond, para_expr-Cast}
 
 -- so many numbers from n on
 abbrev pub numbers : ℕ → ℕ → List ℕ
