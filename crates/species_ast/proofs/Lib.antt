@@ -1,6 +1,7 @@
 pub mod AccessLaws
 pub mod ArrayLaws
 pub mod Cutting
+pub mod Extent
 mod Examples
 mod HullExamples
 pub mod HullLaws

@@ -1,6 +1,13 @@
+//! The keywords (C17 6.4.1), the punctuators (C17 6.4.6), and the limits on a text.
 ghost use Rattle.std.specs.Prelude.{◌≡◌, ◌≤◌, length, map, bytes_eq};
 ghost use Rattle.std.specs.List.{list_any};
 ghost use Rattle.species_ast.specs.Text.Words.{is_keyword, first_len, punctuator_len};
+
+/// The greatest size of a program, in bytes.
+pub const MOST_BYTES: u32 = 4_194_304;
+
+/// The greatest load of a program's tokens.
+pub const MOST_LOAD: u32 = 2_000;
 
 const KEYWORDS: [&str; 44] = [
     "auto",
@@ -80,15 +87,16 @@ fn first_len(words: &[&str], bytes: &[u8]) -> usize
     0
 }
 
-pub(crate) fn is_keyword(word: &[u8]) -> bool
+/// Whether these bytes are a keyword, which is never a name.
+pub fn is_keyword(word: &[u8]) -> bool
     ensures { result ≡ is_keyword word.now }
 {
     is_one_of(&KEYWORDS, word)
 }
 
 /// The length of the longest punctuator at the front, or 0.
-#[tactic(auto, unfolding(species_ast::specs::Text::Words::punctuators))]
-pub(crate) fn punctuator_len(bytes: &[u8]) -> usize
+#[tactic(auto, unfolding(crate::specs::Text::Words::punctuators))]
+pub fn punctuator_len(bytes: &[u8]) -> usize
     ensures value { result ≡ punctuator_len bytes.now }
     ensures within { result ≤ length bytes.now }
 {
