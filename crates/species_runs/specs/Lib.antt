@@ -1,4 +1,5 @@
 pub mod Applied
+pub mod Distinct
 pub mod Every
 pub mod Indices
 pub mod Places
