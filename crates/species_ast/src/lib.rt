@@ -4,6 +4,7 @@
 //! a list of children is a list, a child is a value, and a name is the list of its bytes.
 #![tactic(auto)]
 
+mod action;
 mod characters;
 mod copies;
 mod memory;
@@ -18,6 +19,7 @@ mod trap;
 mod tree;
 mod words;
 
+pub use action::Action;
 pub use characters::{is_blank, is_digit, is_letter, is_word_byte, line_len, word_len};
 pub use copies::{copy, copy_expr, copy_exprs, copy_loop, copy_stmt, copy_stmts};
 pub use memory::OutOfMemory;
