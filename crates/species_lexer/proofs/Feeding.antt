@@ -1,5 +1,6 @@
 -- One piece more of a text that is cut as it comes.
 use Rattle.std.proofs.Common.{◌≡◌, ◌∙◌, ap, sym, refl, subst, ℕ, zero, suc, ◌+◌, ◌<◌, ◌≤◌, Bool, true, false, List, [], ◌∷◌, ◌++◌, length, take, drop, Option, Some, None, Result, Ok, Err, arith, append_assoc, append-nil, length-append, length-drop}
+use Rattle.std.specs.Prelude.{is_some}
 use Rattle.std.proofs.lemmas.List.{take-append-le, drop-append-le}
 use Rattle.species_ast.specs.Token.{Token}
 use Rattle.species_ast.specs.declared.tree.Value.{Value}
@@ -77,6 +78,11 @@ refused_here c (b ∷ bytes) q r is e =
     go (Refused s) f = f
 
 -- ---- what a piece adds
+
+pub none_is : (found o : Option Value) → found ≡ o → is_some found ≡ false → o ≡ None
+none_is found None e h = refl
+none_is None (Some v) e h = cc
+none_is (Some w) (Some v) e h = cc
 
 abbrev pub Added : CutPart → CutPart → List ℕ → ℕ → Piece → Type 0
 Added old new bytes n p = (0 < n) × (n ≤ length bytes) × (n ≡ extent p) × (new ≡ past old bytes p)
