@@ -1,3 +1,5 @@
+//! Inputs and outputs that end, fail, or fall short.
+
 use super::*;
 use species_ast::OutOfMemory;
 use std::alloc::Global;

@@ -1,3 +1,5 @@
+//! An input read to its end, and bytes written to the last.
+
 ghost use Rattle.std.specs.Prelude.{◌≡◌, ◌≤◌, ◌<◌, ◌+◌, ◌++◌, List, ℕ, Option, Some, Err, length, IfOk, IsErr, OnOk, OnErr};
 ghost use Rattle.species_io.specs.Told.{Rose, before, then_bytes, AtEnd, IsLonger, GaveAtMost, GaveCount, TookPart};
 ghost use Rattle.species_io.specs.Piecewise.{HandedOn};
