@@ -4,4 +4,5 @@ pub mod IndexLaws
 pub mod PlaceLaws
 pub mod ReadLaws
 pub mod TurnLaws
+pub mod ValueLaws
 pub mod WalkLaws
