@@ -13,6 +13,7 @@ pub mod Induction
 pub mod IterationLaws
 pub mod IteratorLaws
 pub mod KindLaws
+pub mod ReferenceLaws
 pub mod RunLaws
 mod ScopeCases
 mod ScopeExamples

@@ -5,10 +5,9 @@ use Rattle.std.specs.List.{list_all, filter}
 use Rattle.std.proofs.lemmas.Bool.{and_parts, and_from}
 use Rattle.species_ast.specs.declared.tree.Stmt.{Stmt, fold-Stmt}
 use Rattle.species_ast.specs.declared.tree.Stmt.TheOpen.{Stmt-F, Loop-F}
-use Rattle.species_ast.specs.declared.tree.Stmt.TheVariants as stmt
 use Rattle.species_ast.specs.declared.tree.Loop.{Loop, roll-Loop, out-Loop}
 use Rattle.species_ast.specs.declared.tree.Unit.{Unit as Program}
-use Rattle.species_ast.specs.Scope.Refusals.{Limit, Refusal, Finding, places_where, refused_at}
+use Rattle.species_ast.specs.Scope.Refusals.{Limit, Refusal, places_where, refused_at}
 use Rattle.species_ast.specs.Scope.Hulls.{passes_hull}
 use Rattle.species_ast.specs.Scope.Magnitudes.{passes_bound}
 use Rattle.species_ast.specs.Scope.Limits.{is_too_deep, is_too_far, has_too_many_dimensions, has_lawful_sizes}
@@ -16,9 +15,9 @@ use Rattle.species_ast.specs.Scope.Nests.{Bounds, front_with, front_step, front_
 use Rattle.species_ast.specs.Scope.Loops.{Nesting, no_loops, entered, Standing, PlacedLoop, passes, Placing, list_loops, loops_at, loops_inside, loops_in, placed_loops}
 use Rattle.species_ast.specs.Scope.Conditions.{too_deep, too_far, past_hull, past_bound, bad_mark, refused_loops, too_many_dimensions, too_many_elements, refused_arrays}
 use Rattle.species_ast.specs.Scope.Programs.{Program as Resolved}
-use Rattle.species_ast.specs.Scope.WellMade.{Made, made, made_at, made_loop, list_keeps, fronts_of, head_keeps, is_made_array}
+use Rattle.species_ast.specs.Scope.WellMade.{Made, made, made_at, made_loop, list_keeps, fronts_of, is_made_array}
 use Rattle.species_ast.proofs.Folds.{fold_stmt-Assign, fold_stmt-AddTo, fold_stmt-Declare, fold_stmt-SetLocal, fold_stmt-If, fold_stmt-For, fold_stmt-Block, fold_loop}
-use Rattle.species_ast.proofs.Induction.{Each, each_all, StmtCases, stmt_ind}
+use Rattle.species_ast.proofs.Induction.{Each, each_all, stmt_ind}
 use Rattle.species_ast.proofs.Paras.{beside, seconds, para_stmt-Assign, para_stmt-AddTo, para_stmt-Declare, para_stmt-SetLocal, para_stmt-If, para_stmt-For, para_stmt-Block, para_loop}
 
 -- ---- fronts
@@ -126,7 +125,7 @@ is_tested = stmt_ind IsTested (record {
       ∙ ap (λ fs. list_all is_kept (record { head = roll-Loop l; stands = standing at n } ∷ list_loops fs (record { statement = at; around = entered l n; passed = false || passes n l }) 0)) (seconds loops_in l.body)
       ∙ ap (λ front. is_kept_with front l n && list_all is_kept (list_loops (map loops_in l.body) (record { statement = at; around = entered l n; passed = false || passes n l }) 0)) (front_of-loop l)
       ∙ guarded (is_too_deep n.level) (is_too_far l.step) (passes_hull n.path l) (passes_bound n.path l) (is_bad_mark n.in_nest n.level l.mark (front_with l.start l.limit (fronts_of (map made l.body))))
-        (λ passed. list_all is_kept (list_loops (map loops_in l.body) (record { statement = at; around = entered l n; passed = passed }) 0)) (list_keeps (map made l.body) (entered l n)) (listed l.body h at (entered l n) 0));
+      (λ passed. list_all is_kept (list_loops (map loops_in l.body) (record { statement = at; around = entered l n; passed = passed }) 0)) (list_keeps (map made l.body) (entered l n)) (listed l.body h at (entered l n) 0));
   block = λ body h. from_parts _ _ _ (para_stmt-Block loops_at loops_inside body) (fold_stmt-Block made_at made_loop body) (λ at n.
       ap (λ fs. list_all is_kept (list_loops fs (standing at n) 0)) (seconds loops_in body) ∙ listed body h at n 0);
 })

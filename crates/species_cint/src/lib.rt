@@ -263,11 +263,7 @@ fn complement(kind: Kind, n: Word) -> Value
 fn joint(a: Kind, b: Kind) -> Kind
     ensures { result ≡ operators.joint a b }
 {
-    if order(a) < order(b) {
-        b
-    } else {
-        a
-    }
+    if order(a) < order(b) { b } else { a }
 }
 
 fn is_shift(op: Binary) -> bool
