@@ -25,7 +25,7 @@ use Rattle.species_notation.specs.declared.raw.RawLine.{RawLine}
 use Rattle.species_notation.specs.declared.raw.RawLine.TheVariants as line
 use Rattle.species_notation.specs.declared.given.Names.{Names}
 use Rattle.species_notation.specs.Parts.{Piece, Solid, Space, text_of}
-use Rattle.species_notation.specs.Spelled.{RawOffset, arc_front, arc_forms, mark_text}
+use Rattle.species_notation.specs.Spelled.{RawOffset, first_parts, next_parts, arc_front, arc_forms, mark_text}
 
 -- ---- what is written, part by part
 
@@ -50,6 +50,11 @@ constant_behind c = if nat_eq (unsigned_abs c) 0 then [] else written_constant c
 abbrev pub closed_with : ℤ → List Summand → RawForm
 closed_with c [] = record { first = written_constant c; more = [] }
 closed_with c (s ∷ ss) = record { first = s; more = ss ++ constant_behind c }
+
+-- the constant where it stands alone (true), and behind terms
+abbrev pub closing_parts : Bool → ℤ → List Part
+closing_parts true c = first_parts (written_constant c)
+closing_parts false c = flat_map next_parts (constant_behind c)
 
 -- the terms in the order of their levels, then the constant
 abbrev pub written_form : List (List ℕ) → Form → RawForm
