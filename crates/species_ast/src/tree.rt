@@ -29,11 +29,13 @@ pub struct LocalInfo {
     pub kind: Kind,
 }
 
-/// C's `int` and `unsigned int`, both of 32 bits.
+/// C's `int` and `unsigned int`, of 32 bits, and `long long` and `unsigned long long`, of 64.
 #[derive(Clone, Copy, Debug, PartialEq, Eq)]
 pub enum Kind {
     Int,
     Unsigned,
+    Long,
+    UnsignedLong,
 }
 
 /// A value of one of the kinds.
@@ -41,6 +43,8 @@ pub enum Kind {
 pub enum Value {
     Int(i32),
     Unsigned(u32),
+    Long(i64),
+    UnsignedLong(u64),
 }
 
 /// `-`, `~` and `!`.
