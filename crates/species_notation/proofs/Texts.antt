@@ -31,7 +31,7 @@ listed_end : {A : Type 0} (b : ℕ) (parts : A → List Part) (xs : List A) (x :
 listed_end b parts [] x = append-nil (parts x)
 listed_end b parts (y ∷ xs) x = ap (λ l. parts y ++ l) (flat_next (behind b parts) xs x) ∙ sym (append_assoc (parts y) (flat_map (behind b parts) xs) (behind b parts x))
 
-not_zero : (n : ℕ) → nat_eq (suc n) 0 ≡ false
+pub not_zero : (n : ℕ) → nat_eq (suc n) 0 ≡ false
 not_zero n = grind arith
 
 summands_end : (ss : List Summand) (s : Summand) → summands_parts (ss ++ s ∷ []) ≡ summands_parts ss ++ summand_parts (nat_eq (length ss) 0) s

@@ -99,11 +99,16 @@ is_read dir.Read = true
 is_read dir.Write = false
 is_read dir.Add = false
 
+-- the arc stands on the left (true), or on the right
+abbrev pub is_on : Bool → Arc → Bool
+is_on true a = is_read a.dir
+is_on false a = not (is_read a.dir)
+
 abbrev pub reads_of : List Arc → List Arc
-reads_of arcs = filter (λ a. is_read a.dir) arcs
+reads_of arcs = filter (is_on true) arcs
 
 abbrev pub others_of : List Arc → List Arc
-others_of arcs = filter (λ a. not (is_read a.dir)) arcs
+others_of arcs = filter (is_on false) arcs
 
 -- The reads stand on the left, and the writes and adds on the right.
 abbrev pub written_sides : Names → List Arc → RawLine
@@ -132,6 +137,11 @@ arc_pieces a =
 
 abbrev pub next_arc : RawArc → List Piece
 next_arc a = spaced (part.Sign 94) ++ arc_pieces a
+
+-- the first arc (true), or another one
+abbrev pub arc_after : Bool → RawArc → List Piece
+arc_after true a = arc_pieces a
+arc_after false a = next_arc a
 
 abbrev pub side_pieces : List RawArc → List Piece
 side_pieces [] = Solid (part.Name (codes "none")) ∷ []

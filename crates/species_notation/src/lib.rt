@@ -9,3 +9,4 @@ mod writing;
 
 pub use given::{GivenArc, GivenDim, Names, SpeciesLine};
 pub use law::law_notation;
+pub use writing::{write_arc, write_line};

@@ -1,12 +1,12 @@
 //! Arcs and lines as text.
 #![tactic(auto, using(crate::proofs::Texts::parts_append, std::proofs::Common::append_assoc))]
 
-ghost use Rattle.std.specs.Prelude.{◌≡◌, ◌++◌, ◌<◌, List, [], ◌∷◌, Some, All, OnOk, IfOk, decimal, map, pos, int_lt};
+ghost use Rattle.std.specs.Prelude.{◌≡◌, ◌++◌, ◌<◌, List, [], ◌∷◌, Some, All, OnOk, IfOk, decimal, map, filter, pos, int_lt};
 ghost use Rattle.std.specs.Int.RustNames.{unsigned_abs};
 ghost use Rattle.species_arcs.specs.Sizes.{HasSmallSpan};
 ghost use Rattle.species_notation.specs.Parts.{parts_text, text_of};
 ghost use Rattle.species_notation.specs.Spelled.{lead_parts, product_parts, summand_parts, summands_parts, form_parts, separator, offsets_parts, arc_front, arc_forms, int_parts, stride_parts, offset_parts, range_parts, listed_parts, word_text, mark_text};
-ghost use Rattle.species_notation.specs.Written.{is_negative, name_at, written_term, closing_parts, written_form, written_int, written_stride, written_offset, written_offsets, written_range, written_arc, arc_pieces, arc_text, line_text};
+ghost use Rattle.species_notation.specs.Written.{is_negative, name_at, written_term, closing_parts, written_form, written_int, written_stride, written_offset, written_offsets, written_range, written_arc, arc_pieces, is_read, is_on, arc_after, side_pieces, line_pieces, written_sides, written_reason, arc_text, line_text};
 
 use crate::given::Names;
 use itoa::Buffer;
@@ -277,5 +277,116 @@ pub fn write_arc(alloc: Global, arc: &Arc, names: &Names) -> Result<Vec<u8>, Out
 {
     let mut out = Vec::new(alloc);
     put_arc(&mut out, arc, names)?;
+    Ok(out)
+}
+
+fn is_read(dir: Dir) -> bool
+    ensures { result ≡ is_read dir }
+{
+    match dir {
+        Dir::Read => true,
+        Dir::Write => false,
+        Dir::Add => false,
+    }
+}
+
+/// Whether an arc stands on the left, or on the right.
+fn is_on(left: bool, arc: &Arc) -> bool
+    ensures { result ≡ is_on left arc.now }
+{
+    if left {
+        is_read(arc.dir)
+    } else {
+        !is_read(arc.dir)
+    }
+}
+
+/// Appends an arc of a side, behind a separator where it is not the first.
+fn put_next_arc(out: &mut Vec<u8>, is_first: bool, arc: &Arc, names: &Names) -> Result<(), OutOfMemory>
+    requires { All HasSmallSpan arc.now.dims }
+    ensures { OnOk result (out.new.items ≡ out.old.items ++ text_of (arc_after is_first (written_arc names.now arc.now))) }
+{
+    if !is_first {
+        put(out, b" ^ ")?;
+    }
+    put_arc(out, arc, names)?;
+    Ok(())
+}
+
+/// Appends a side of a line.
+fn put_side(out: &mut Vec<u8>, left: bool, arcs: &[Arc], names: &Names) -> Result<(), OutOfMemory>
+    requires { All (λ a. All HasSmallSpan a.dims) arcs.now }
+    ensures { OnOk result (out.new.items ≡ out.old.items ++ text_of (side_pieces (map (written_arc names.now) (filter (is_on left) arcs.now)))) }
+{
+    let mut is_empty = true;
+    for arc in arcs {
+        if !is_on(left, arc) {
+            continue;
+        }
+        put_next_arc(out, is_empty, arc, names)?;
+        is_empty = false;
+    }
+    if is_empty {
+        put(out, b"none")?;
+    }
+    Ok(())
+}
+
+/// Appends both sides of a line.
+fn put_sides(out: &mut Vec<u8>, arcs: &[Arc], names: &Names) -> Result<(), OutOfMemory>
+    requires { All (λ a. All HasSmallSpan a.dims) arcs.now }
+    ensures { OnOk result (out.new.items ≡ out.old.items ++ text_of (line_pieces (written_sides names.now arcs.now))) }
+{
+    put_side(out, true, arcs, names)?;
+    put(out, b" -> ")?;
+    put_side(out, false, arcs, names)?;
+    Ok(())
+}
+
+/// Appends why a loop is sequential.
+fn put_reason(out: &mut Vec<u8>, reason: Reason, names: &Names) -> Result<(), OutOfMemory>
+    ensures { OnOk result (out.new.items ≡ out.old.items ++ text_of (line_pieces (written_reason names.now reason))) }
+{
+    match reason {
+        Reason::Carried {
+            array,
+            first,
+            second,
+        } => {
+            put(out, b"sequential carried ")?;
+            put(out, name_at(names.arrays.as_slice(), array))?;
+            put_spaced(out, first)?;
+            put_spaced(out, second)?;
+            Ok(())
+        }
+        Reason::Outer { local } => {
+            put(out, b"sequential local ")?;
+            put(out, name_at(names.locals.as_slice(), local))?;
+            Ok(())
+        }
+    }
+}
+
+/// Appends a space and a number.
+fn put_spaced(out: &mut Vec<u8>, number: u32) -> Result<(), OutOfMemory>
+    ensures { OnOk result (out.new.items ≡ out.old.items ++ 32 ∷ decimal number) }
+{
+    put(out, b" ")?;
+    put_number(out, u128::from(number))?;
+    Ok(())
+}
+
+/// The text of the species line of a nest: its arcs, or why it is sequential. A number without a name is
+/// written as no bytes.
+#[tactic(auto, unfolding(crate::specs::Written::line_text))]
+pub fn write_line(alloc: Global, nest: &Nest, names: &Names) -> Result<Vec<u8>, OutOfMemory>
+    requires { All (λ a. All HasSmallSpan a.dims) nest.now.arcs }
+    ensures { IfOk result (λ text. text.items ≡ line_text names.now nest.now) }
+{
+    let mut out = Vec::new(alloc);
+    match nest.reason {
+        None => put_sides(&mut out, nest.arcs.as_slice(), names)?,
+        Some(reason) => put_reason(&mut out, reason, names)?,
+    }
     Ok(out)
 }
