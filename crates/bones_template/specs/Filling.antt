@@ -28,9 +28,9 @@ hole_at text = find (λ h. begins (hole_text h) text) every_hole
 
 -- A text, and what it becomes: each hole is replaced by its bytes, from the front on, and every other byte stays.
 pub data Becomes (f : Contents) : List ℕ → List ℕ → Type 0 where
-  end : Becomes f [] []
-  hole : (h : Hole) (text filled : List ℕ) → Becomes f text filled → Becomes f (hole_text h ++ text) (text_for f h ++ filled)
-  byte : (b : ℕ) (text filled : List ℕ) → hole_at (b ∷ text) ≡ None → Becomes f text filled → Becomes f (b ∷ text) (b ∷ filled)
+  at_end : Becomes f [] []
+  at_hole : (h : Hole) (text filled : List ℕ) → Becomes f text filled → Becomes f (hole_text h ++ text) (text_for f h ++ filled)
+  at_byte : (b : ℕ) (text filled : List ℕ) → hole_at (b ∷ text) ≡ None → Becomes f text filled → Becomes f (b ∷ text) (b ∷ filled)
 
 -- ---- the same as a function
 

@@ -113,9 +113,7 @@ fn count_in(hole: Hole, text: &[u8]) -> usize
 {
     let mut count = 0;
     for at in 0..text.len() {
-        if text[at..].starts_with(hole.text()) {
-            count += 1;
-        }
+        count += usize::from(text[at..].starts_with(hole.text()));
     }
     count
 }
