@@ -18,7 +18,8 @@ fn holes_are_filled(rt: HostRuntime) -> Result<(), Fail> {
     match Template::new(rt.alloc(), text) {
         Ok(template) => {
             let filled = fill(rt.alloc(), &template, &holes).or(Err("memory"))?;
-            assert!(rt; filled.as_slice() == b"  #p none -> <loop>\n  #q\n<for<lop>\n");
+            let wanted = b"  #p none -> <loop>\n  #q\n<for<lop>\n";
+            assert!(rt; filled.as_slice() == wanted.as_slice());
         }
         Err(refusal) => assert!(rt; false, "{refusal:?}"),
     }
