@@ -1,12 +1,12 @@
 -- The values of C's integer kinds and C's operators on them, over unbounded whole numbers (C17 6.2.5, 6.3.1, 6.5).
--- Only the definitions up to `joint` name the kinds: one more kind is one more line in each of them.
+-- Only the definitions up to `in_kind` name the kinds: one more kind is one more line in each of them.
 use Rattle.std.specs.Prelude.{ℕ, ◌-◌, ◌^◌, ◌%◌, Bool, true, false, not, nat_lt, if◌then◌else◌, ℤ, pos, negsuc, ◌+ℤ◌, ◌-ℤ◌, ◌*ℤ◌, neg_ℤ, unsigned_abs, int_lt, int_le, int_div, bit_and, bit_or, bit_xor, Result, Ok, Err, IsTrue}
 use Rattle.std.specs.Ordering.{int_eq}
 use Rattle.std.specs.Int.{int_shr}
 use Rattle.species_ast.specs.declared.tree.Kind.{Kind}
 use Rattle.species_ast.specs.declared.tree.Kind.TheVariants as kind
 use Rattle.species_ast.specs.declared.tree.Value.{Value}
-use Rattle.species_ast.specs.declared.tree.Value.TheVariants.{Int, Unsigned}
+use Rattle.species_ast.specs.declared.tree.Value.TheVariants.{Int, Unsigned, Long, UnsignedLong}
 use Rattle.species_ast.specs.declared.tree.Unary.{Unary}
 use Rattle.species_ast.specs.declared.tree.Unary.TheVariants.{Neg, Not, LogNot}
 use Rattle.species_ast.specs.declared.tree.Binary.{Binary}
@@ -20,30 +20,46 @@ use Rattle.species_ast.specs.declared.trap.Undefined.TheVariants.{Overflow, DivZ
 abbrev pub bits_of : Kind → ℕ
 bits_of kind.Int = 32
 bits_of kind.Unsigned = 32
+bits_of kind.Long = 64
+bits_of kind.UnsignedLong = 64
 
 -- whether a kind has numbers below 0
 abbrev pub is_signed : Kind → Bool
 is_signed kind.Int = true
 is_signed kind.Unsigned = false
+is_signed kind.Long = true
+is_signed kind.UnsignedLong = false
+
+-- the place of a kind in the order Int, Unsigned, Long, UnsignedLong
+abbrev pub order_of : Kind → ℕ
+order_of kind.Int = 0
+order_of kind.Unsigned = 1
+order_of kind.Long = 2
+order_of kind.UnsignedLong = 3
 
 abbrev pub kind_of : Value → Kind
 kind_of (Int n) = kind.Int
 kind_of (Unsigned n) = kind.Unsigned
+kind_of (Long n) = kind.Long
+kind_of (UnsignedLong n) = kind.UnsignedLong
 
 -- the number that a value stands for
 abbrev pub number_of : Value → ℤ
 number_of (Int n) = n
 number_of (Unsigned n) = pos n
+number_of (Long n) = n
+number_of (UnsignedLong n) = pos n
 
 -- the value of a kind with this number, which is a number of the kind
 abbrev pub in_kind : Kind → ℤ → Value
 in_kind kind.Int n = Int n
 in_kind kind.Unsigned n = Unsigned (unsigned_abs n)
+in_kind kind.Long n = Long n
+in_kind kind.UnsignedLong n = UnsignedLong (unsigned_abs n)
 
--- the kind to which the two sides of an operator are converted: the later of their kinds in the order Int, Unsigned (C17 6.3.1.8)
+-- the kind to which the two sides of an operator are converted: the later of theirs in the order (C17 6.3.1.8)
 abbrev pub joint : Kind → Kind → Kind
-joint kind.Int k = k
-joint kind.Unsigned k = kind.Unsigned
+joint a b = if nat_lt (order_of a) (order_of b) then b else a
 
 -- ---- the numbers of a width
 

@@ -1,6 +1,6 @@
 //! The tree of a program as its grammar derives it, before any name has a meaning.
 //!
-//! Each type has one variant for each alternative of the grammar, and keeps the place of what it
+//! Each type has a variant for every alternative that the grammar has, and keeps the place of what it
 //! stands for: the byte offset of the first token in the program. `static`, and `void` between the
 //! brackets of the function, are not kept.
 ghost use Rattle.std.specs.Prelude.{◌≡◌};
@@ -9,7 +9,7 @@ use crate::tree::{Binary, Kind, Schedule, Test, Value};
 use sqlite_items::{Boxed, Items};
 use std::marker::Model;
 
-/// A name where it stands in a program. Of an `#include` the text is the header with its brackets
+/// A name where it stands in a program. Of an `#include` the text is the header and its brackets
 /// or quotes, and of a species line the text after the word; the place of both is that of the `#`.
 #[derive(Drop)]
 pub struct RawName<'a> {
@@ -73,7 +73,8 @@ pub struct RawStmt<'a> {
     pub what: RawWhat<'a>,
 }
 
-/// What a statement does. Only a block has a `Declare` in it.
+/// What a statement does. Only a block has a `Declare` in it. What is large stands behind `Boxed`, so
+/// that a long list of small statements takes little memory.
 #[cycle(raw_stmt)]
 #[derive(Drop)]
 pub enum RawWhat<'a> {
@@ -84,16 +85,16 @@ pub enum RawWhat<'a> {
     Block(Items<RawStmt<'a>>),
     Empty,
     If {
-        test: RawExpr<'a>,
+        test: Boxed<RawExpr<'a>>,
         body: Boxed<RawStmt<'a>>,
         otherwise: Option<Boxed<RawStmt<'a>>>,
     },
-    Loop(RawLoop<'a>),
-    Change(RawChange<'a>),
+    Loop(Boxed<RawLoop<'a>>),
+    Change(Boxed<RawChange<'a>>),
     /// An addition under a pragma that makes it atomic.
     Atomic {
-        target: RawTarget<'a>,
-        value: RawExpr<'a>,
+        target: Boxed<RawTarget<'a>>,
+        value: Boxed<RawExpr<'a>>,
     },
 }
 

@@ -5,8 +5,8 @@
 //! result. What differs between the kinds is their width and whether they are signed, and stands in the first functions.
 #![tactic(auto)]
 
-ghost use Rattle.std.specs.Prelude.{◌≡◌, unsigned_abs, ◌+ℤ◌, ◌-ℤ◌, ◌*ℤ◌, ◌^◌, ◌<◌, ◌≤ℤ◌, ◌<ℤ◌, pos, neg_ℤ};
-ghost use Rattle.species_ast.specs.Operators.{bits_of, is_signed, kind_of, number_of, in_kind, converted, exact_in, left_by, right_by, binary_of, unary_of};
+ghost use Rattle.std.specs.Prelude.{◌≡◌, true, unsigned_abs, ◌+ℤ◌, ◌-ℤ◌, ◌*ℤ◌, ◌^◌, ◌-◌, ◌<◌, ◌≤ℤ◌, ◌<ℤ◌, pos, neg_ℤ};
+ghost use Rattle.species_ast.specs.Operators.{bits_of, is_signed, order_of, kind_of, number_of, in_kind, converted, exact_in, left_by, right_by, binary_of, unary_of};
 ghost use Rattle.species_ast.specs.Operators as operators;
 ghost use Rattle.species_cint.specs.Ranges.{IsNumber, IsRightSide};
 
@@ -14,16 +14,17 @@ pub use species_ast::Undefined;
 use species_ast::{Binary, Kind, Unary, Value};
 
 /// A word that holds each number of each kind, and the exact sum, difference and quotient of two.
-type Word = i64;
+type Word = i128;
 
 /// The unsigned word of the same width, in which products wrap.
-type Bits = u64;
+type Bits = u128;
 
 fn bits(kind: Kind) -> u32
     ensures { result ≡ bits_of kind }
 {
     match kind {
         Kind::Int | Kind::Unsigned => 32,
+        Kind::Long | Kind::UnsignedLong => 64,
     }
 }
 
@@ -31,8 +32,8 @@ fn signed(kind: Kind) -> bool
     ensures { result ≡ is_signed kind }
 {
     match kind {
-        Kind::Int => true,
-        Kind::Unsigned => false,
+        Kind::Int | Kind::Long => true,
+        Kind::Unsigned | Kind::UnsignedLong => false,
     }
 }
 
@@ -42,17 +43,21 @@ fn kind_of(v: Value) -> Kind
     match v {
         Value::Int(_) => Kind::Int,
         Value::Unsigned(_) => Kind::Unsigned,
+        Value::Long(_) => Kind::Long,
+        Value::UnsignedLong(_) => Kind::UnsignedLong,
     }
 }
 
 /// The number that a value stands for.
-pub fn number(v: Value) -> i64
+pub fn number(v: Value) -> i128
     ensures number { result ≡ number_of v }
     ensures range { IsNumber (kind_of v) result }
 {
     match v {
-        Value::Int(n) => i64::from(n),
-        Value::Unsigned(n) => i64::from(n),
+        Value::Int(n) => i128::from(n),
+        Value::Unsigned(n) => i128::from(n),
+        Value::Long(n) => i128::from(n),
+        Value::UnsignedLong(n) => i128::from(n),
     }
 }
 
@@ -64,6 +69,8 @@ fn value(kind: Kind, n: Word) -> Value
     match kind {
         Kind::Int => Value::Int(n as i32),
         Kind::Unsigned => Value::Unsigned(n as u32),
+        Kind::Long => Value::Long(n as i64),
+        Kind::UnsignedLong => Value::UnsignedLong(n as u64),
     }
 }
 
@@ -177,6 +184,16 @@ fn is_count(kind: Kind, n: Word) -> bool
     0 <= n && n < Word::from(bits(kind))
 }
 
+/// `a << n`, for a number that is not negative and a count.
+fn scaled(kind: Kind, a: Word, n: Word) -> Result<Value, Undefined>
+    requires left { IsNumber kind a }
+    requires natural { pos 0 ≤ℤ a }
+    requires count { operators.is_count (bits_of kind) n ≡ true }
+    ensures { result ≡ exact_in kind (a *ℤ pos (2 ^ unsigned_abs n)) }
+{
+    exact(kind, a << n)
+}
+
 fn shifted_left(kind: Kind, a: Word, n: Word) -> Result<Value, Undefined>
     requires left { IsNumber kind a }
     ensures { result ≡ left_by (operators.is_count (bits_of kind) n) kind a (unsigned_abs n) }
@@ -184,7 +201,7 @@ fn shifted_left(kind: Kind, a: Word, n: Word) -> Result<Value, Undefined>
     if !is_count(kind, n) || a < 0 {
         Err(Undefined::BadShift)
     } else {
-        exact(kind, a << n)
+        scaled(kind, a, n)
     }
 }
 
@@ -215,14 +232,38 @@ fn from_bits(kind: Kind, bits: Word) -> Value
     value(kind, reduced(kind, bits))
 }
 
-/// The kind to which the two sides of an operator are converted.
+/// The place of a kind in the order Int, Unsigned, Long, UnsignedLong.
+fn order(kind: Kind) -> u32
+    ensures { result ≡ order_of kind }
+{
+    match kind {
+        Kind::Int => 0,
+        Kind::Unsigned => 1,
+        Kind::Long => 2,
+        Kind::UnsignedLong => 3,
+    }
+}
+
+fn negation(kind: Kind, n: Word) -> Result<Value, Undefined>
+    requires { IsNumber kind n }
+    ensures { result ≡ exact_in kind (neg_ℤ n) }
+{
+    exact(kind, -n)
+}
+
+/// The value with the other bits.
+fn complement(kind: Kind, n: Word) -> Value
+    requires { IsNumber kind n }
+    ensures { result ≡ operators.from_bits kind (2 ^ bits_of kind - 1 - operators.bits_in kind n) }
+{
+    from_bits(kind, modulus(kind) - 1 - bits_in(kind, n))
+}
+
+/// The kind to which the two sides of an operator are converted: the later of theirs in the order.
 fn joint(a: Kind, b: Kind) -> Kind
     ensures { result ≡ operators.joint a b }
 {
-    match a {
-        Kind::Int => b,
-        Kind::Unsigned => Kind::Unsigned,
-    }
+    if order(a) < order(b) { b } else { a }
 }
 
 fn is_shift(op: Binary) -> bool
@@ -258,7 +299,7 @@ fn binary_in(kind: Kind, op: Binary, a: Word, b: Word) -> Result<Value, Undefine
 }
 
 /// The value of a binary operator, or why it has none. A shift works in the kind of its left side;
-/// for another operator both sides are converted to `unsigned` where one of them is.
+/// for another operator both sides are converted to the later of their kinds.
 pub fn binary(op: Binary, a: Value, b: Value) -> Result<Value, Undefined>
     ensures { result ≡ binary_of op a b }
 {
@@ -277,8 +318,8 @@ pub fn unary(op: Unary, v: Value) -> Result<Value, Undefined>
     let kind = kind_of(v);
     let n = number(v);
     match op {
-        Unary::Neg => exact(kind, -n),
-        Unary::Not => Ok(from_bits(kind, modulus(kind) - 1 - bits_in(kind, n))),
+        Unary::Neg => negation(kind, n),
+        Unary::Not => Ok(complement(kind, n)),
         Unary::LogNot => Ok(truth(n == 0)),
     }
 }

@@ -3,7 +3,7 @@ use Rattle.std.proofs.Common.{◌≡◌, refl, ℕ, ◌^◌, ◌-◌, pos, neg_�
 use Rattle.species_ast.specs.declared.tree.Kind.{Kind}
 use Rattle.species_ast.specs.declared.tree.Kind.TheVariants as kind
 use Rattle.species_ast.specs.declared.tree.Value.{Value}
-use Rattle.species_ast.specs.declared.tree.Value.TheVariants.{Int, Unsigned}
+use Rattle.species_ast.specs.declared.tree.Value.TheVariants.{Int, Unsigned, Long, UnsignedLong}
 use Rattle.species_ast.specs.declared.tree.Binary.{Binary}
 use Rattle.species_ast.specs.declared.tree.Unary.{Unary}
 use Rattle.species_ast.specs.declared.tree.Unary.TheVariants.{Neg, Not, LogNot}
@@ -78,7 +78,7 @@ shifts : answers (
     Ok (int 1073741824) ∷ Err Overflow ∷ Err BadShift ∷ Ok (int 0) ∷ Ok (unsigned 2147483648) ∷ []
 shifts = refl
 
--- a shift has the kind of its left side and takes the number of its right side; a bad count is found first
+-- a shift is of its left side's kind, and the right side counts by its number; a bad count is found first
 shift_sides : answers (
     (Shl, int 1, unsigned 4) ∷ (Shl, unsigned 1, minus 1) ∷ (Shr, minus 8, unsigned 1) ∷ (Shr, unsigned 8, unsigned 32) ∷
     (Shl, minus 1, int 0) ∷ (Shl, minus 1, int 40) ∷ (Shr, minus 1, minus 1) ∷ [])
@@ -195,3 +195,54 @@ conversions_at_ends : map (λ (c : Kind × Value). converted c.0 c.1) (
     ≡ unsigned 4294967294 ∷ unsigned 2147483649 ∷ unsigned 2147483647 ∷ minus 2 ∷ minus 2147483647 ∷ int 0 ∷
     unsigned 4294967295 ∷ least ∷ []
 conversions_at_ends = refl
+
+-- ---- 64 bits
+
+-- the value -n of kind Long
+abbrev minus_long : ℕ → Value
+minus_long n = Long (neg_ℤ (pos n))
+
+abbrev long : ℕ → Value
+long n = Long (pos n)
+
+abbrev unsigned_long : ℕ → Value
+unsigned_long n = UnsignedLong n
+
+-- arithmetic at the ends of the kinds of 64 bits
+long_arithmetic : answers (
+    (Add, long 9223372036854775807, int 1) ∷ (Sub, minus_long 9223372036854775808, long 1) ∷ (Mul, long 3037000500, long 3037000500) ∷
+    (Mul, int 2147483647, long 2147483647) ∷ (Div, minus_long 9223372036854775808, int 1) ∷ (Div, minus_long 9223372036854775808, minus 1) ∷
+    (Rem, minus_long 9223372036854775808, minus_long 1) ∷ (Add, unsigned_long 18446744073709551615, int 2) ∷ (Sub, int 3, unsigned_long 5) ∷
+    (Mul, unsigned_long 18446744073709551615, unsigned_long 18446744073709551615) ∷ (Div, unsigned_long 18446744073709551615, minus 1) ∷ [])
+    ≡ Err Overflow ∷ Err Overflow ∷ Err Overflow ∷
+    Ok (long 4611686014132420609) ∷ Ok (minus_long 9223372036854775808) ∷ Err Overflow ∷
+    Err Overflow ∷ Ok (unsigned_long 1) ∷ Ok (unsigned_long 18446744073709551614) ∷
+    Ok (unsigned_long 1) ∷ Ok (unsigned_long 1) ∷ []
+long_arithmetic = refl
+
+-- the count is below the width of the left side alone
+long_shifts : answers (
+    (Shl, long 1, int 62) ∷ (Shl, long 1, int 63) ∷ (Shl, long 1, int 64) ∷ (Shl, unsigned_long 3, int 63) ∷ (Shl, unsigned_long 1, long 64) ∷
+    (Shl, int 1, long 32) ∷ (Shr, minus_long 9223372036854775808, int 63) ∷ (Shr, unsigned_long 18446744073709551615, unsigned 63) ∷
+    (Shr, minus_long 1, int 64) ∷ (Shl, minus_long 1, int 1) ∷ [])
+    ≡ Ok (long 4611686018427387904) ∷ Err Overflow ∷ Err BadShift ∷ Ok (unsigned_long 9223372036854775808) ∷ Err BadShift ∷
+    Err BadShift ∷ Ok (minus_long 1) ∷ Ok (unsigned_long 1) ∷
+    Err BadShift ∷ Err BadShift ∷ []
+long_shifts = refl
+
+-- all numbers of Unsigned are numbers of Long, so that only UnsignedLong takes negative numbers modulo 2 ^ 64
+mixed_widths : answers (
+    (Lt, minus 1, unsigned 1) ∷ (Lt, minus_long 1, unsigned 1) ∷ (Lt, minus_long 1, unsigned_long 1) ∷ (Add, unsigned 4294967295, long 1) ∷
+    (Add, unsigned 4294967295, int 1) ∷ (BitAnd, minus 1, unsigned_long 18446744073709551615) ∷ (BitXor, minus_long 1, int 5) ∷
+    (BitOr, unsigned 4294967295, minus_long 9223372036854775808) ∷ (Eq, unsigned 4294967295, minus_long 1) ∷ [])
+    ≡ Ok (int 0) ∷ Ok (int 1) ∷ Ok (int 0) ∷ Ok (long 4294967296) ∷
+    Ok (unsigned 0) ∷ Ok (unsigned_long 18446744073709551615) ∷ Ok (minus_long 6) ∷
+    Ok (minus_long 9223372032559808513) ∷ Ok (int 0) ∷ []
+mixed_widths = refl
+
+long_conversions : map (λ (c : Kind × Value). converted c.0 c.1) (
+    (kind.UnsignedLong, minus 1) ∷ (kind.Long, unsigned_long 9223372036854775808) ∷ (kind.Long, unsigned 4294967295) ∷
+    (kind.Int, long 2147483648) ∷ (kind.Unsigned, minus_long 9223372036854775807) ∷ (kind.Int, unsigned_long 18446744069414584321) ∷ [])
+    ≡ unsigned_long 18446744073709551615 ∷ minus_long 9223372036854775808 ∷ long 4294967295 ∷
+    least ∷ unsigned 1 ∷ int 1 ∷ []
+long_conversions = refl

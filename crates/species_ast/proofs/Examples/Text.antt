@@ -1,5 +1,5 @@
 -- Small texts and their tokens, worked out by hand and checked by computation.
-use Rattle.std.proofs.Common.{◌≡◌, refl, ℕ, List, [], ◌∷◌}
+use Rattle.std.proofs.Common.{◌≡◌, refl, ℕ, List, [], ◌∷◌, map}
 use Rattle.std.specs.Prelude.{codes, Option, Some, None, pos}
 use Rattle.species_ast.specs.Token.{Token}
 use Rattle.species_ast.specs.declared.tree.Value.TheVariants as value
@@ -14,7 +14,7 @@ use Rattle.species_ast.specs.Text.Pragmas.{openmp_of}
 use Rattle.species_ast.specs.Text.Directives.{form_of}
 use Rattle.species_ast.specs.Text.Pieces.{piece_of}
 use Rattle.species_ast.specs.Text.Stream.{TokenStream, stream_of, grammar_tokens}
-use Rattle.species_ast.specs.Text.Load.{first_above}
+use Rattle.species_ast.specs.Text.Load.{no_load, first_above}
 
 abbrev name : ℕ → List ℕ → Token
 name place text = record { place = place; text = text; kind = kind.Name }
@@ -53,6 +53,33 @@ abbrev atomic : ℕ → List ℕ → Token
 atomic place text = record { place = place; text = text; kind = kind.Atomic }
 
 -- ---- numbers
+
+-- the literals at the ends of each row, and those that are none
+decimal_literals : map literal_of (
+    codes "2147483647" ∷ codes "2147483648" ∷ codes "4294967295u" ∷ codes "4294967296U" ∷
+    codes "2147483648ll" ∷ codes "9223372036854775807LL" ∷ codes "9223372036854775808ll" ∷
+    codes "9223372036854775808ull" ∷ codes "18446744073709551615LLu" ∷ codes "18446744073709551616ULL" ∷ [])
+    ≡ Some (value.Int (pos 2147483647)) ∷ None ∷ Some (value.Unsigned 4294967295) ∷ None ∷
+    Some (value.Long (pos 2147483648)) ∷ Some (value.Long (pos 9223372036854775807)) ∷ None ∷
+    Some (value.UnsignedLong 9223372036854775808) ∷ Some (value.UnsignedLong 18446744073709551615) ∷ None ∷ []
+unfolding literal_of
+decimal_literals = refl
+
+hexadecimal_literals : map literal_of (
+    codes "0x7FFFFFFF" ∷ codes "0x80000000" ∷ codes "0xFFFFFFFF" ∷ codes "0x100000000" ∷ codes "0X1u" ∷ codes "0x80000000ll" ∷
+    codes "0x7fffffffffffffffLL" ∷ codes "0x8000000000000000ll" ∷ codes "0xFFFFFFFFFFFFFFFFll" ∷ codes "0x10000000000000000ll" ∷
+    codes "0xffffffffffffffffllU" ∷ codes "0x10000000000000000Ull" ∷ [])
+    ≡ Some (value.Int (pos 2147483647)) ∷ Some (value.Unsigned 2147483648) ∷ Some (value.Unsigned 4294967295) ∷ None ∷ Some (value.Unsigned 1) ∷ Some (value.Long (pos 2147483648)) ∷
+    Some (value.Long (pos 9223372036854775807)) ∷ Some (value.UnsignedLong 9223372036854775808) ∷ Some (value.UnsignedLong 18446744073709551615) ∷ None ∷
+    Some (value.UnsignedLong 18446744073709551615) ∷ None ∷ []
+unfolding literal_of
+hexadecimal_literals = refl
+
+no_suffixes : map literal_of (
+    codes "1lL" ∷ codes "1Ll" ∷ codes "1l" ∷ codes "1L" ∷ codes "1lll" ∷ codes "1uu" ∷ codes "1lul" ∷ codes "1ulLL" ∷ codes "1u0" ∷ codes "0xll" ∷ codes "01ll" ∷ [])
+    ≡ None ∷ None ∷ None ∷ None ∷ None ∷ None ∷ None ∷ None ∷ None ∷ None ∷ None ∷ []
+unfolding literal_of
+no_suffixes = refl
 
 exponent_run : stream_of (codes "0xE+1") ≡ up_to [] (refusal.BadNumber 0)
 unfolding piece_of literal_of form_of openmp_of punctuators
@@ -665,7 +692,7 @@ users_file = refl
 
 -- the first token with which the load of a text is above a limit
 abbrev above : ℕ → List ℕ → Option ℕ
-above most text = first_above most (record { load = 0; blocks = []; brackets = 0 }) (grammar_tokens (stream_of text).tokens)
+above most text = first_above most no_load (grammar_tokens (stream_of text).tokens)
 
 load_of_words : above 2 (codes "x y z") ≡ Some 4
 unfolding piece_of literal_of form_of openmp_of punctuators

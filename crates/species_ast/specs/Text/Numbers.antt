@@ -1,10 +1,12 @@
 -- Number runs (C17 6.4.8) and the literals among them (C17 6.4.4.1).
-use Rattle.std.specs.Prelude.{ℕ, suc, ◌-◌, Bool, not, ◌||◌, ◌&&◌, ◌==◌, nat_le, nat_lt, nat_eq, if◌then◌else◌, List, [], ◌∷◌, length, take, drop, codes, pos, Option, Some, None}
-use Rattle.std.specs.List.{list_all, ends_with}
+use Rattle.std.specs.Prelude.{ℕ, suc, ◌-◌, ◌^◌, Bool, not, ◌||◌, ◌&&◌, ◌==◌, nat_lt, nat_eq, bytes_eq, if◌then◌else◌, List, [], ◌∷◌, length, take, drop, codes, pos, Option, Some, None, option_and_then}
+use Rattle.std.specs.List.{list_any}
 use Rattle.std.specs.Str.Parse.{digits_value}
-use Rattle.species_ast.specs.Text.Characters.{is_digit, is_hex_digit, is_word, begins}
+use Rattle.species_ast.specs.Text.Characters.{is_digit, is_hex_digit, is_word, begins, run_of}
+use Rattle.species_ast.specs.Operators.{bits_of, is_signed, in_kind}
+use Rattle.species_ast.specs.declared.tree.Kind.{Kind}
+use Rattle.species_ast.specs.declared.tree.Kind.TheVariants as kind
 use Rattle.species_ast.specs.declared.tree.Value.{Value}
-use Rattle.species_ast.specs.declared.tree.Value.TheVariants as value
 
 -- ---- runs: a digit, then letters, digits, `_` and `.`, and a sign directly after an exponent's letter
 
@@ -25,53 +27,71 @@ run_more last (b ∷ bytes) = if goes_on last b then suc (run_more b bytes) else
 
 -- ---- literals
 
--- an `unsigned` literal ends in `u` or `U`
-abbrev pub has_suffix : List ℕ → Bool
-has_suffix run = ends_with nat_eq run (codes "u") || ends_with nat_eq run (codes "U")
+-- what a literal may end in: `u` and `ll` in either order, each in letters of one case
+abbrev pub unsigned_suffixes : List (List ℕ)
+unsigned_suffixes = codes "u" ∷ codes "U" ∷ []
 
--- the run without that letter
-abbrev pub without_suffix : List ℕ → List ℕ
-without_suffix run = if has_suffix run then take (length run - 1) run else run
+abbrev pub long_suffixes : List (List ℕ)
+long_suffixes = codes "ll" ∷ codes "LL" ∷ []
 
-abbrev pub is_hex : List ℕ → Bool
-is_hex run = begins (codes "0x") run || begins (codes "0X") run
+abbrev pub unsigned_long_suffixes : List (List ℕ)
+unsigned_long_suffixes = codes "ull" ∷ codes "uLL" ∷ codes "Ull" ∷ codes "ULL" ∷ codes "llu" ∷ codes "llU" ∷ codes "LLu" ∷ codes "LLU" ∷ []
 
--- one digit or more; of decimal ones the first is not 0, unless it is the only one: there are no octal literals
-abbrev pub is_decimal : List ℕ → Bool
-is_decimal digits = nat_lt 0 (length digits) && list_all is_digit digits && (not (begins (codes "0") digits) || length digits == 1)
+abbrev pub is_one_of : List (List ℕ) → List ℕ → Bool
+is_one_of words word = list_any (bytes_eq word) words
 
-abbrev pub is_hexadecimal : List ℕ → Bool
-is_hexadecimal digits = nat_lt 0 (length digits) && list_all is_hex_digit digits
+-- the kind that a literal asks for by what stands behind its digits
+abbrev pub asked_kind : List ℕ → Option Kind
+asked_kind suffix =
+    if nat_eq (length suffix) 0 then Some kind.Int
+    else if is_one_of unsigned_suffixes suffix then Some kind.Unsigned
+    else if is_one_of long_suffixes suffix then Some kind.Long
+    else if is_one_of unsigned_long_suffixes suffix then Some kind.UnsignedLong
+    else None
 
--- a literal of this number, if it is in the range of its kind
-abbrev pub unsigned_literal : ℕ → Option Value
-unsigned_literal n = if nat_le n 4294967295 then Some (value.Unsigned n) else None
+-- how many of the numbers from 0 up a kind has
+abbrev pub numbers_from_0 : Kind → ℕ
+numbers_from_0 k = if is_signed k then 2 ^ (bits_of k - 1) else 2 ^ bits_of k
 
-abbrev pub int_literal : ℕ → Option Value
-int_literal n = if nat_le n 2147483647 then Some (value.Int (pos n)) else None
+-- a literal of this number, if its kind has it
+abbrev pub literal_in : Kind → ℕ → Option Value
+literal_in k n = if nat_lt n (numbers_from_0 k) then Some (in_kind k (pos n)) else None
+
+-- the unsigned kind of the same width
+abbrev pub unsigned_of : Kind → Kind
+unsigned_of kind.Int = kind.Unsigned
+unsigned_of kind.Long = kind.UnsignedLong
+unsigned_of k = k
 
 abbrev pub or_else : {X : Type 0} → Option X → Option X → Option X
 or_else (Some x) other = Some x
 or_else None other = other
 
--- a hexadecimal literal that is too large for `int` is `unsigned`
-abbrev pub hex_literal : ℕ → Option Value
-hex_literal n = or_else (int_literal n) (unsigned_literal n)
+-- a hexadecimal literal that is too large for the kind that it asks for is unsigned
+abbrev pub hex_literal : Kind → ℕ → Option Value
+hex_literal k n = or_else (literal_in k n) (literal_in (unsigned_of k) n)
 
-abbrev pub decimal_value : Bool → List ℕ → Option Value
-decimal_value is_unsigned digits =
-    if not (is_decimal digits) then None
-    else if is_unsigned then unsigned_literal (digits_value 10 digits)
-    else int_literal (digits_value 10 digits)
+abbrev pub is_hex : List ℕ → Bool
+is_hex run = begins (codes "0x") run || begins (codes "0X") run
 
-abbrev pub hex_value : Bool → List ℕ → Option Value
-hex_value is_unsigned digits =
-    if not (is_hexadecimal digits) then None
-    else if is_unsigned then unsigned_literal (digits_value 16 digits)
-    else hex_literal (digits_value 16 digits)
+-- one digit or more, of which the first is not 0, unless it is the only one: there are no octal literals
+abbrev pub is_decimal : List ℕ → Bool
+is_decimal digits = nat_lt 0 (length digits) && (not (begins (codes "0") digits) || length digits == 1)
+
+abbrev pub decimal_value : List ℕ → List ℕ → Option Value
+decimal_value digits suffix =
+    if is_decimal digits then option_and_then (λ k. literal_in k (digits_value 10 digits)) (asked_kind suffix) else None
+
+abbrev pub hex_value : List ℕ → List ℕ → Option Value
+hex_value digits suffix =
+    if nat_lt 0 (length digits) then option_and_then (λ k. hex_literal k (digits_value 16 digits)) (asked_kind suffix) else None
+
+-- the digits at the front and what stands behind them
+abbrev pub with_digits : (ℕ → Bool) → (List ℕ → List ℕ → Option Value) → List ℕ → Option Value
+with_digits is_in value bytes = value (take (run_of is_in bytes) bytes) (drop (run_of is_in bytes) bytes)
 
 -- the value of a number run that is a literal
 unfoldable pub literal_of : List ℕ → Option Value
 literal_of run =
-    if is_hex run then hex_value (has_suffix run) (drop 2 (without_suffix run))
-    else decimal_value (has_suffix run) (without_suffix run)
+    if is_hex run then with_digits is_hex_digit hex_value (drop 2 run)
+    else with_digits is_digit decimal_value run
