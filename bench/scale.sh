@@ -1,13 +1,18 @@
 #!/usr/bin/env bash
 # How time and memory of `species arcs` grow with its input, beside `cat` and `gcc -fsyntax-only` on
 # the same bytes. Prints one line for each input: its size, seconds and peak memory of each, ratios.
-# Usage: bench/scale.sh [FOLDER for the inputs, else a temporary one]
+# Usage: bench/scale.sh [FOLDER to keep the inputs in, else they are removed]
 set -eu
-top="$(cd "$(dirname "${BASH_SOURCE[0]}")/.." && pwd)"
+top="$(CDPATH='' cd -- "$(dirname -- "$(readlink -f -- "${BASH_SOURCE[0]}")")/.." && pwd)"
 "$top/species" arcs < "$top/examples/copy.c" > /dev/null
 program="$top/crates/species_tool/out/species_tool"
-folder="${1:-$(mktemp -d)}"
-mkdir -p "$folder"
+if [ $# -gt 0 ]; then
+    folder="$1"
+    mkdir -p "$folder"
+else
+    folder="$(mktemp -d)"
+    trap 'rm -rf "$folder"' EXIT
+fi
 
 # The largest program that is accepted: many arrays with long names, 512 elements.
 python3 - "$folder" <<'PY'
@@ -40,8 +45,7 @@ for mib in (1, 2, 4):
     open(f"{folder}/refused-{mib}.c", "w").write(text[:-1] + " ")
 PY
 
-measure() { # NAME COMMAND..: seconds and KiB
-    local name="$1"; shift
+measure() { # COMMAND.. FILE: seconds and KiB
     python3 - "$@" <<'PY'
 import resource, subprocess, sys, time
 begin = time.time()
@@ -54,9 +58,9 @@ printf '%-14s %9s | %8s %8s | %8s %8s | %8s %8s | %s\n' input bytes species KiB 
 for kind in accepted refused; do
     for mib in 1 2 4; do
         file="$folder/$kind-$mib.c"
-        read -r s sm < <(measure species "$program" arcs "$file")
-        read -r c cm < <(measure cat cat "$file")
-        read -r g gm < <(measure gcc gcc -fsyntax-only -x c - "$file")
+        read -r s sm < <(measure "$program" arcs "$file")
+        read -r c cm < <(measure cat "$file")
+        read -r g gm < <(measure gcc -fsyntax-only -x c - "$file")
         printf '%-14s %9d | %8s %8s | %8s %8s | %8s %8s | %s\n' "$kind-$mib" "$(stat -c %s "$file")" \
             "$s" "$sm" "$c" "$cm" "$g" "$gm" "$(python3 -c "print('%.2f' % ($s / max($g, 0.001)))")"
     done

@@ -1,7 +1,9 @@
 -- Laws of access trees: how their runs, accesses and actions compose, and what ties the actions to the run.
 use Rattle.std.proofs.Common.{◌≡◌, refl, ap, List, [], ◌∷◌, ◌++◌, map, Option, Some, None}
+use Rattle.species_ast.specs.declared.action.Action.{Action}
+use Rattle.species_ast.specs.declared.action.Action.TheVariants.{Fault}
 use Rattle.species_ast.specs.declared.tree.Value.{Value}
-use Rattle.species_ast.specs.Accesses.{Cells, cell, Site, Tree, Ret, Stop, Read, Write, Add, then_do, Outcome, Ended, Stopped, run, Access, access, Reads, Writes, Adds, accesses, Action, ReadOf, WriteOf, AddOf, Fault, acts, action_of, answers_in, last_action}
+use Rattle.species_ast.specs.Accesses.{Joins, Cells, cell, Site, Tree, Ret, Stop, Read, Write, Add, then_do, Outcome, Ended, Stopped, run, Access, access, Reads, Writes, Adds, accesses, read_of, write_of, add_of, acts, action_of, answers_in, last_action}
 
 -- ---- one after another
 
@@ -30,32 +32,32 @@ then_do-Ret (Read s e more) = ap (Read s e) (λ i v. then_do-Ret (more v) i)
 then_do-Ret (Write s e v more) = ap (Write s e v) (then_do-Ret more)
 then_do-Ret (Add s e v more) = ap (Add s e v) (then_do-Ret more)
 
-pub run-then_do : {X Y : Type 0} (t : Tree X) (next : X → Tree Y) (m : Cells)
-    → run (then_do t next) m ≡ go_on (run t m) (λ x n. run (next x) n)
-run-then_do (Ret x) next m = refl
-run-then_do (Stop s why) next m = refl
-run-then_do (Read s e more) next m = run-then_do (more (cell m e)) next m
-run-then_do (Write s e v more) next m = run-then_do more next _
-run-then_do (Add s e v more) next m = run-then_do more next _
+pub run-then_do : {X Y : Type 0} (join : Joins) (t : Tree X) (next : X → Tree Y) (m : Cells)
+    → run join (then_do t next) m ≡ go_on (run join t m) (λ x n. run join (next x) n)
+run-then_do join (Ret x) next m = refl
+run-then_do join (Stop s why) next m = refl
+run-then_do join (Read s e more) next m = run-then_do join (more (cell m e)) next m
+run-then_do join (Write s e v more) next m = run-then_do join more next _
+run-then_do join (Add s e v more) next m = run-then_do join more next _
 
-pub accesses-then_do : {X Y : Type 0} (t : Tree X) (next : X → Tree Y) (m : Cells)
-    → accesses (then_do t next) m ≡ accesses t m ++ accesses_on (run t m) (λ x n. accesses (next x) n)
-accesses-then_do (Ret x) next m = refl
-accesses-then_do (Stop s why) next m = refl
-accesses-then_do (Read s e more) next m = ap (λ l. access s Reads e (cell m e) ∷ l) (accesses-then_do (more (cell m e)) next m)
-accesses-then_do (Write s e v more) next m = ap (λ l. access s Writes e v ∷ l) (accesses-then_do more next _)
-accesses-then_do (Add s e v more) next m = ap (λ l. access s Adds e v ∷ l) (accesses-then_do more next _)
+pub accesses-then_do : {X Y : Type 0} (join : Joins) (t : Tree X) (next : X → Tree Y) (m : Cells)
+    → accesses join (then_do t next) m ≡ accesses join t m ++ accesses_on (run join t m) (λ x n. accesses join (next x) n)
+accesses-then_do join (Ret x) next m = refl
+accesses-then_do join (Stop s why) next m = refl
+accesses-then_do join (Read s e more) next m = ap (λ l. access s Reads e (cell m e) ∷ l) (accesses-then_do join (more (cell m e)) next m)
+accesses-then_do join (Write s e v more) next m = ap (λ l. access s Writes e v ∷ l) (accesses-then_do join more next _)
+accesses-then_do join (Add s e v more) next m = ap (λ l. access s Adds e v ∷ l) (accesses-then_do join more next _)
 
 -- ---- the actions
 
 -- the answers of a run, given back, yield the accesses of the run, and then its end or a fault
-pub acts_of_run : {X : Type 0} (t : Tree X) (m : Cells)
-    → acts t (answers_in (accesses t m)) ≡ map action_of (accesses t m) ++ last_action (run t m) ∷ []
-acts_of_run (Ret x) m = refl
-acts_of_run (Stop s why) m = refl
-acts_of_run (Read s e more) m = ap (λ l. ReadOf e ∷ l) (acts_of_run (more (cell m e)) m)
-acts_of_run (Write s e v more) m = ap (λ l. WriteOf e v ∷ l) (acts_of_run more _)
-acts_of_run (Add s e v more) m = ap (λ l. AddOf e v ∷ l) (acts_of_run more _)
+pub acts_of_run : {X : Type 0} (join : Joins) (t : Tree X) (m : Cells)
+    → acts t (answers_in (accesses join t m)) ≡ map action_of (accesses join t m) ++ last_action (run join t m) ∷ []
+acts_of_run join (Ret x) m = refl
+acts_of_run join (Stop s why) m = refl
+acts_of_run join (Read s e more) m = ap (λ l. read_of e ∷ l) (acts_of_run join (more (cell m e)) m)
+acts_of_run join (Write s e v more) m = ap (λ l. write_of e v ∷ l) (acts_of_run join more _)
+acts_of_run join (Add s e v more) m = ap (λ l. add_of e v ∷ l) (acts_of_run join more _)
 
 -- with more answers the list only grows: also a read that had no answer left stands in the longer list where it stood
 pub acts_grow : {X : Type 0} (t : Tree X) (answers more : List Value)
@@ -65,18 +67,18 @@ acts_grow (Stop s why) answers more = ([], refl)
 acts_grow (Read s e next) [] [] = ([], refl)
 acts_grow (Read s e next) [] (v ∷ more) = (acts (next v) more, refl)
 acts_grow (Read s e next) (v ∷ answers) more =
-    let r = acts_grow (next v) answers more in (r.0, ap (λ l. ReadOf e ∷ l) r.1)
-acts_grow (Write s e v next) answers more = let r = acts_grow next answers more in (r.0, ap (λ l. WriteOf e v ∷ l) r.1)
-acts_grow (Add s e v next) answers more = let r = acts_grow next answers more in (r.0, ap (λ l. AddOf e v ∷ l) r.1)
+    let r = acts_grow (next v) answers more in (r.0, ap (λ l. read_of e ∷ l) r.1)
+acts_grow (Write s e v next) answers more = let r = acts_grow next answers more in (r.0, ap (λ l. write_of e v ∷ l) r.1)
+acts_grow (Add s e v next) answers more = let r = acts_grow next answers more in (r.0, ap (λ l. add_of e v ∷ l) r.1)
 
 -- the actions that these answers lead to before the end, and what stands there: what was computed and the answers left
 abbrev pub acts_before : {X : Type 0} → Tree X → List Value → List Action
 acts_before (Ret x) answers = []
 acts_before (Stop s why) answers = Fault ∷ []
-acts_before (Read s e more) [] = ReadOf e ∷ []
-acts_before (Read s e more) (v ∷ answers) = ReadOf e ∷ acts_before (more v) answers
-acts_before (Write s e v more) answers = WriteOf e v ∷ acts_before more answers
-acts_before (Add s e v more) answers = AddOf e v ∷ acts_before more answers
+acts_before (Read s e more) [] = read_of e ∷ []
+acts_before (Read s e more) (v ∷ answers) = read_of e ∷ acts_before (more v) answers
+acts_before (Write s e v more) answers = write_of e v ∷ acts_before more answers
+acts_before (Add s e v more) answers = add_of e v ∷ acts_before more answers
 
 abbrev pub reached : {X : Type 0} → Tree X → List Value → Option (X × List Value)
 reached (Ret x) answers = Some (x, answers)
@@ -95,9 +97,9 @@ pub acts-then_do : {X Y : Type 0} (t : Tree X) (next : X → Tree Y) (answers : 
 acts-then_do (Ret x) next answers = refl
 acts-then_do (Stop s why) next answers = refl
 acts-then_do (Read s e more) next [] = refl
-acts-then_do (Read s e more) next (v ∷ answers) = ap (λ l. ReadOf e ∷ l) (acts-then_do (more v) next answers)
-acts-then_do (Write s e v more) next answers = ap (λ l. WriteOf e v ∷ l) (acts-then_do more next answers)
-acts-then_do (Add s e v more) next answers = ap (λ l. AddOf e v ∷ l) (acts-then_do more next answers)
+acts-then_do (Read s e more) next (v ∷ answers) = ap (λ l. read_of e ∷ l) (acts-then_do (more v) next answers)
+acts-then_do (Write s e v more) next answers = ap (λ l. write_of e v ∷ l) (acts-then_do more next answers)
+acts-then_do (Add s e v more) next answers = ap (λ l. add_of e v ∷ l) (acts-then_do more next answers)
 
 -- ---- without sites: what a tree does, whatever its statements and their places are
 
@@ -123,18 +125,18 @@ pub acts-bare : {X : Type 0} (t : Tree X) (answers : List Value) → acts (bare 
 acts-bare (Ret x) answers = refl
 acts-bare (Stop s why) answers = refl
 acts-bare (Read s e more) [] = refl
-acts-bare (Read s e more) (v ∷ answers) = ap (λ l. ReadOf e ∷ l) (acts-bare (more v) answers)
-acts-bare (Write s e v more) answers = ap (λ l. WriteOf e v ∷ l) (acts-bare more answers)
-acts-bare (Add s e v more) answers = ap (λ l. AddOf e v ∷ l) (acts-bare more answers)
+acts-bare (Read s e more) (v ∷ answers) = ap (λ l. read_of e ∷ l) (acts-bare (more v) answers)
+acts-bare (Write s e v more) answers = ap (λ l. write_of e v ∷ l) (acts-bare more answers)
+acts-bare (Add s e v more) answers = ap (λ l. add_of e v ∷ l) (acts-bare more answers)
 
 -- nor does what a run ends in, but for the place where it is undefined
 abbrev pub without_place : {X : Type 0} → Outcome X → Outcome X
 without_place (Ended x m) = Ended x m
 without_place (Stopped why place) = Stopped why 0
 
-pub run-bare : {X : Type 0} (t : Tree X) (m : Cells) → run (bare t) m ≡ without_place (run t m)
-run-bare (Ret x) m = refl
-run-bare (Stop s why) m = refl
-run-bare (Read s e more) m = run-bare (more (cell m e)) m
-run-bare (Write s e v more) m = run-bare more _
-run-bare (Add s e v more) m = run-bare more _
+pub run-bare : {X : Type 0} (join : Joins) (t : Tree X) (m : Cells) → run join (bare t) m ≡ without_place (run join t m)
+run-bare join (Ret x) m = refl
+run-bare join (Stop s why) m = refl
+run-bare join (Read s e more) m = run-bare join (more (cell m e)) m
+run-bare join (Write s e v more) m = run-bare join more _
+run-bare join (Add s e v more) m = run-bare join more _

@@ -7,9 +7,9 @@ use Rattle.species_ast.specs.declared.tree.Kind.TheVariants as kind
 use Rattle.species_ast.specs.declared.tree.Value.{Value}
 use Rattle.species_ast.specs.declared.tree.Unit.{Unit as Program}
 use Rattle.species_ast.specs.Operators.{kind_of, IsValue}
-use Rattle.species_ast.specs.Accesses.{Cells, Element, look, cell, change, changed, added, Forbidden, Tree, Ret, Stop, Read, Write, Add, Outcome, Ended, Stopped, run}
+use Rattle.species_ast.specs.Accesses.{Joins, sums, Cells, Element, look, cell, change, changed, Forbidden, Tree, Ret, Stop, Read, Write, Add, Outcome, Ended, Stopped, run}
 use Rattle.species_ast.specs.Evaluation.{Context, array_kind, sizes_of, product}
-use Rattle.species_ast.specs.Run.{AreArraysOf, source_of, program_of, source_run}
+use Rattle.species_ast.specs.Run.{AreArraysOf, source_context, program_of, source_run}
 use Rattle.species_ast.proofs.KindLaws.{HasKind, kind-in_kind, IsAllowed, Keeps, FrameOf, program_keeps}
 
 -- the elements that are declared are there, with values of their array's kind
@@ -78,22 +78,32 @@ abbrev pub OutcomeKeeps : {X : Type 0} → Context → (X → Type 0) → Outcom
 OutcomeKeeps w P (Ended x m) = P x × HasElements w m
 OutcomeKeeps w P (Stopped why place) = IsAllowed why
 
-pub run_keeps : {X : Type 0} (w : Context) (P : X → Type 0) (t : Tree X) (m : Cells) → HasElements w m → Keeps w P t → OutcomeKeeps w P (run t m)
-run_keeps w P (Ret x) m has h = (h, has)
-run_keeps w P (Stop s why) m has h = h
-run_keeps w P (Read s el more) m has h =
+-- an atomic addition leaves the element's kind
+abbrev pub KeepsKinds : Joins → Type 0
+KeepsKinds join = (a : ℕ) (c v : Value) → kind_of (join a c v) ≡ kind_of c
+
+pub sums_keep : KeepsKinds sums
+sums_keep a c v = kind-in_kind (kind_of c) _
+
+pub run_keeps : {X : Type 0} (join : Joins) → KeepsKinds join → (w : Context) (P : X → Type 0) (t : Tree X) (m : Cells)
+    → HasElements w m → Keeps w P t → OutcomeKeeps w P (run join t m)
+run_keeps join kinds w P (Ret x) m has h = (h, has)
+run_keeps join kinds w P (Stop s why) m has h = h
+run_keeps join kinds w P (Read s el more) m has h =
     let there = has el.array el.at h.0 in
     let value : there.0 ≡ cell m el = sym (ap (λ o. unwrap_or o (cell [] el)) there.1) in
-    run_keeps w P (more (cell m el)) m has (h.1 (cell m el) (subst (HasKind (array_kind w el.array)) value there.2))
-run_keeps w P (Write s el v more) m has h =
-    run_keeps w P more (changed m el (λ c. v)) (keeps_elements w m el (λ c. v) (λ u _. h.1) has) h.2
-run_keeps w P (Add s el v more) m has h =
-    run_keeps w P more (changed m el (added v)) (keeps_elements w m el (added v) (λ u of. kind-in_kind (kind_of u) _ ∙ of) has) h.2
+    run_keeps join kinds w P (more (cell m el)) m has (h.1 (cell m el) (subst (HasKind (array_kind w el.array)) value there.2))
+run_keeps join kinds w P (Write s el v more) m has h =
+    run_keeps join kinds w P more (changed m el (λ c. v)) (keeps_elements w m el (λ c. v) (λ u _. h.1) has) h.2
+run_keeps join kinds w P (Add s el v more) m has h =
+    run_keeps join kinds w P more (changed m el (λ c. join el.array c v)) (keeps_elements w m el (λ c. join el.array c v) (λ u of. kinds el.array u v ∙ of) has) h.2
 
 -- a program's run from arrays of its own
-pub source_run_keeps : (u : Program) (m : Cells) → AreArraysOf u.arrays m → OutcomeKeeps (source_of u) (FrameOf (source_of u)) (source_run u m)
-source_run_keeps u m h = run_keeps (source_of u) (FrameOf (source_of u)) (program_of u) m (has_elements (source_of u) m h) (program_keeps u)
+pub source_run_keeps : (join : Joins) → KeepsKinds join → (u : Program) (m : Cells)
+    → AreArraysOf u.arrays m → OutcomeKeeps (source_context u) (FrameOf (source_context u)) (source_run join u m)
+source_run_keeps join kinds u m h =
+    run_keeps join kinds (source_context u) (FrameOf (source_context u)) (program_of u) m (has_elements (source_context u) m h) (program_keeps u)
 
 -- where it is undefined, it is so by one of the traps
-pub never_forbidden : (u : Program) (m : Cells) (place : ℕ) → AreArraysOf u.arrays m → source_run u m ≡ Stopped Forbidden place → ⊥
-never_forbidden u m place h same = subst (OutcomeKeeps (source_of u) (FrameOf (source_of u))) same (source_run_keeps u m h)
+pub never_forbidden : (join : Joins) → KeepsKinds join → (u : Program) (m : Cells) (place : ℕ) → AreArraysOf u.arrays m → source_run join u m ≡ Stopped Forbidden place → ⊥
+never_forbidden join kinds u m place h same = subst (OutcomeKeeps (source_context u) (FrameOf (source_context u))) same (source_run_keeps join kinds u m h)

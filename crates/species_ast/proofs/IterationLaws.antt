@@ -1,7 +1,6 @@
 -- What a body does as an iteration of a nest is what it does in the source, where it sets only locals that it may set and
 -- adds atomically only to arrays to which it may.
 use Rattle.std.proofs.Common.{◌≡◌, refl, ap, sym, ◌∙◌, ℕ, suc, List, [], ◌∷◌, map, length, Bool, true, false, ◌&&◌, Some, if◌then◌else◌}
-use Rattle.species_ast.specs.declared.tree.Kind.{Kind}
 use Rattle.species_ast.specs.declared.tree.Expr.{Expr}
 use Rattle.species_ast.specs.declared.tree.Stmt.{Stmt, fold-Stmt}
 use Rattle.species_ast.specs.declared.tree.Stmt.TheOpen.{Stmt-F, Loop-F}
@@ -9,13 +8,13 @@ use Rattle.species_ast.specs.declared.tree.Loop.{roll-Loop}
 use Rattle.species_ast.specs.Operators.{converted}
 use Rattle.species_ast.specs.Accesses.{Forbidden, Ret, Stop, Add, then_do}
 use Rattle.species_ast.specs.Evaluation.{Context, Sense, sense, array_kind, local_kind, with_local, site_at, element_at, elements_in, target_of}
-use Rattle.species_ast.specs.Run.{step, does_scope, scope_of, plain, spot, setting, adding, addition, looping, branching, iteration_in}
+use Rattle.species_ast.specs.Run.{step, does_scope, scope_of, plain, spot, setting, adding, addition, looping, branching, Takes, iteration_in}
 use Rattle.species_ast.proofs.Folds.{fold_stmt-AddTo, fold_stmt-SetLocal, fold_stmt-If, fold_stmt-For, fold_stmt-Block, fold_loop}
 use Rattle.species_ast.proofs.Induction.{Each, each_all, stmt_ind}
 use Rattle.species_ast.proofs.RunLaws.{step-Assign, step-AddTo, step-Declare, step-SetLocal, step-If, step-For, step-Block, loop-roll}
 
 -- the same declarations, where other locals may be set and other arrays added to
-abbrev pub with_leave : Context → (ℕ → Bool) → (Kind → Bool) → Context
+abbrev pub with_leave : Context → (ℕ → Bool) → Takes → Context
 with_leave w may_set may_add = record w { may_set = may_set; may_add = may_add }
 
 -- all of a list are true
@@ -25,7 +24,7 @@ all_true (b ∷ bs) = b && all_true bs
 
 -- whether a statement sets only locals that it may set, and adds atomically only to arrays to which it may, at any depth
 abbrev pub stays_at : Context → Stmt-F Bool Bool → Bool
-stays_at w (Stmt-F.AddTo place a subs value true) = w.may_add (array_kind w a)
+stays_at w (Stmt-F.AddTo place a subs value true) = w.may_add a (array_kind w a)
 stays_at w (Stmt-F.SetLocal place x value) = w.may_set x
 stays_at w (Stmt-F.If place test body otherwise) = all_true body && all_true otherwise
 stays_at w (Stmt-F.For l) = l
@@ -44,7 +43,7 @@ both_true false b h = absurd cc
 
 -- the same, where all is allowed
 abbrev pub Allowing : Context → Context
-Allowing w = with_leave w (λ x. true) (λ k. true)
+Allowing w = with_leave w (λ x. true) (λ a k. true)
 
 abbrev pub IsSame : Context → Stmt → Type 0
 IsSame w x = stays w x ≡ true → step w x ≡ step (Allowing w) x
@@ -63,20 +62,20 @@ set_same w x value may = λ i sp f.
     then_do (value.does sp 0 f) (λ v.
     if may i then Ret (with_local f x (Some (converted (local_kind w x) v))) else Stop (site_at sp value.elements f []) Forbidden)
 
-addition_same : (w : Context) (a : ℕ) (atomic : Bool) (n : ℕ) (value : Sense) → (atomic ≡ true → w.may_add (array_kind w a) ≡ true)
+addition_same : (w : Context) (a : ℕ) (atomic : Bool) (n : ℕ) (value : Sense) → (atomic ≡ true → w.may_add a (array_kind w a) ≡ true)
     → addition w a atomic n value ≡ addition (Allowing w) a atomic n value
 addition_same w a true n value may = λ i sp is f.
     then_do (value.does sp (suc n) f) (λ v.
     if may refl i then Add (site_at sp n f is) (element_at w a is) (converted (array_kind w a) v) (Ret f) else Stop (site_at sp n f is) Forbidden)
 addition_same w a false n value may = refl
 
-adding_same : (w : Context) (a : ℕ) (atomic : Bool) (subs : List Sense) (value : Sense) → (atomic ≡ true → w.may_add (array_kind w a) ≡ true)
+adding_same : (w : Context) (a : ℕ) (atomic : Bool) (subs : List Sense) (value : Sense) → (atomic ≡ true → w.may_add a (array_kind w a) ≡ true)
     → adding w a atomic subs value ≡ adding (Allowing w) a atomic subs value
 adding_same w a atomic subs value may = λ i sp f.
     then_do (target_of w a subs sp 0 f) (λ is. addition_same w a atomic (elements_in subs) value may i sp is f)
 
 add_leave : (w : Context) (place a : ℕ) (subs : List Expr) (value : Expr) (atomic : Bool) → stays_at w (Stmt-F.AddTo place a subs value atomic) ≡ true
-    → atomic ≡ true → w.may_add (array_kind w a) ≡ true
+    → atomic ≡ true → w.may_add a (array_kind w a) ≡ true
 add_leave w place a subs value true t is = t
 add_leave w place a subs value false t is = absurd cc
 
@@ -115,7 +114,7 @@ step_same w = stmt_ind (IsSame w) (record {
 })
 
 -- so an iteration that stays within its leave does what its body does in the source
-pub iteration_same : (w : Context) (body : List Stmt) → all_true (map (stays (iteration_in w body)) body) ≡ true
-    → does_scope (iteration_in w body) body ≡ does_scope (Allowing w) body
-iteration_same w body t =
-    same_scope (iteration_in w body) body (each_all (IsSame (iteration_in w body)) (step_same (iteration_in w body)) body) t
+pub iteration_same : (takes : Takes) (w : Context) (body : List Stmt) → all_true (map (stays (iteration_in takes w body)) body) ≡ true
+    → does_scope (iteration_in takes w body) body ≡ does_scope (Allowing w) body
+iteration_same takes w body t =
+    same_scope (iteration_in takes w body) body (each_all (IsSame (iteration_in takes w body)) (step_same (iteration_in takes w body)) body) t

@@ -26,7 +26,7 @@ use Rattle.species_ast.specs.declared.tree.LocalInfo.{LocalInfo}
 use Rattle.species_ast.specs.declared.tree.Test.{Test}
 use Rattle.species_ast.specs.declared.tree.Loop.{roll-Loop}
 use Rattle.species_ast.specs.declared.tree.Unit.{Unit as Program}
-use Rattle.species_ast.specs.Run.{Step, step, scope_of, does_list, restored, declared_in, turns, inside, outside, looping, assignment, addition, adding, initial, declaring, setting, branching, spot, source_of, first_frame, program_of}
+use Rattle.species_ast.specs.Run.{Step, step, scope_of, does_list, cleared, declared_in, turns, inside, outside, looping, assignment, addition, adding, initial, declaring, setting, branching, spot, source_context, first_frame, program_of}
 use Rattle.species_ast.proofs.Induction.{Each, each_all, expr_ind, stmt_ind}
 use Rattle.species_ast.proofs.RunLaws.{sense-Literal, sense-Iter, sense-Local, sense-Elem, sense-Unary, sense-Binary, sense-And, sense-Or, sense-Cond, sense-Cast, step-Assign, step-AddTo, step-Declare, step-SetLocal, step-If, step-For, step-Block, loop-roll}
 
@@ -274,13 +274,13 @@ frame_set : (w : Context) (f : Frame) (x : ℕ) (o : Option Value) → FrameOf w
 frame_set w f x o ok of y v same =
     ⊎_elim (λ h. ok y v (sym h ∙ same)) (λ h. subst (λ z. HasKind (local_kind w z) v) h.0 (of v (sym h.1 ∙ same))) (local_after f.locals x y o)
 
-frame_restored : (w : Context) (xs : List ℕ) (f g : Frame) → FrameOf w f → FrameOf w g → FrameOf w (restored xs f g)
-frame_restored w [] f g p q = q
-frame_restored w (x ∷ xs) f g p q = frame_restored w xs f (with_local g x (local_of f x)) p (frame_set w g x (local_of f x) q (λ v same. p x v same))
+frame_cleared : (w : Context) (xs : List ℕ) (f : Frame) → FrameOf w f → FrameOf w (cleared xs f)
+frame_cleared w [] f p = p
+frame_cleared w (x ∷ xs) f p = frame_cleared w xs (with_local f x None) (frame_set w f x None p (λ v same. absurd cc))
 
 -- nothing is forbidden
 abbrev pub AllowsAll : Context → Type 0
-AllowsAll w = ((x : ℕ) → w.may_set x ≡ true) × ((k : Kind) → w.may_add k ≡ true)
+AllowsAll w = ((x : ℕ) → w.may_set x ≡ true) × ((a : ℕ) (k : Kind) → w.may_add a k ≡ true)
 
 -- from a frame of right kinds to one
 abbrev pub DoesKeep : Context → (Frame → Tree Frame) → Type 0
@@ -301,7 +301,7 @@ keeps_list w (x ∷ ss) h at k f ok =
 keeps_scope : (w : Context) (ss : List Stmt) → Each (λ x. StepKeeps w (step w x)) ss → (at : List ℕ) (k : ℕ) → DoesKeep w (scope_of (map (step w) ss) at k)
 keeps_scope w ss h at k f ok =
     keeps-then_do w (FrameOf w) (FrameOf w) (does_list w ss at k f) _ (keeps_list w ss h at k f ok)
-    (λ g ok_g. frame_restored w (declared_in (map (step w) ss)) f g ok ok_g)
+    (λ g ok_g. frame_cleared w (declared_in (map (step w) ss)) g ok_g)
 
 keeps_turns : (w : Context) (is : List ℤ) (body : Frame → Tree Frame) → DoesKeep w body → DoesKeep w (turns is body)
 keeps_turns w [] body h f ok = ok
@@ -332,7 +332,7 @@ keeps_addition w all a false n value sp is within f ok = (
 )
 keeps_addition w all a true n value sp is within f ok =
     keeps-then_do w (HasKind (sense w value).kind) (FrameOf w) ((sense w value).does sp (suc n) f) _ (has_its_kind w value sp (suc n) f ok) (λ v of_v.
-    allowed_one w (FrameOf w) (w.may_add (array_kind w a)) _ _ (all.1 (array_kind w a)) (within, kind-in_kind (array_kind w a) _, ok))
+    allowed_one w (FrameOf w) (w.may_add a (array_kind w a)) _ _ (all.1 a (array_kind w a)) (within, kind-in_kind (array_kind w a) _, ok))
 
 keeps_adding : (w : Context) → AllowsAll w → (a : ℕ) (atomic : Bool) (subs : List Expr) (value : Expr) (sp : Spot) → DoesKeep w (adding w a atomic (map (sense w) subs) (sense w value) sp)
 keeps_adding w all a atomic subs value sp f ok =
@@ -387,14 +387,14 @@ no_values [] x = refl
 no_values (l ∷ ls) zero = refl
 no_values (l ∷ ls) (suc x) = no_values ls x
 
-first_frame_of : (u : Program) → FrameOf (source_of u) (first_frame u)
+first_frame_of : (u : Program) → FrameOf (source_context u) (first_frame u)
 first_frame_of u x v same = absurd (none_is_some v (sym (no_values u.locals x) ∙ same))
   where
     none_is_some : (v : Value) → None ≡ Some v → ⊥
     none_is_some v h = cc
 
 -- a program gives elements and locals values of their kinds, and does nothing forbidden
-pub program_keeps : (u : Program) → Keeps (source_of u) (FrameOf (source_of u)) (program_of u)
+pub program_keeps : (u : Program) → Keeps (source_context u) (FrameOf (source_context u)) (program_of u)
 program_keeps u =
-    keeps_list (source_of u) u.body (each_all (λ x. StepKeeps (source_of u) (step (source_of u) x)) (step_keeps (source_of u) (λ x. refl, λ k. refl)) u.body) [] 0
+    keeps_list (source_context u) u.body (each_all (λ x. StepKeeps (source_context u) (step (source_context u) x)) (step_keeps (source_context u) (λ x. refl, λ a k. refl)) u.body) [] 0
     (first_frame u) (first_frame_of u)

@@ -11,7 +11,7 @@ use Rattle.species_ast.specs.declared.tree.Stmt.{Stmt}
 use Rattle.species_ast.specs.declared.tree.Stmt.TheOpen.{Loop-F}
 use Rattle.species_ast.specs.declared.tree.Stmt.TheVariants as s
 use Rattle.species_ast.specs.declared.tree.Loop.{Loop, out-Loop, roll-Loop}
-use Rattle.species_ast.specs.Accesses.{Cells, Tree, then_do, run, accesses}
+use Rattle.species_ast.specs.Accesses.{Joins, Cells, Tree, then_do, run, accesses}
 use Rattle.species_ast.specs.Evaluation.{Frame, Context, sense, sense_at}
 use Rattle.species_ast.specs.Run.{turns, inside, outside, step, step_at, loop_at, loop_of, does_list, does_scope, assignment, adding, declaring, setting, branching, looping, plain, spot, locals_at, locals_of, locals_in}
 use Rattle.species_ast.proofs.Folds.{fold_expr-Literal, fold_expr-Iter, fold_expr-Local, fold_expr-Elem, fold_expr-Unary, fold_expr-Binary, fold_expr-And, fold_expr-Or, fold_expr-Cond, fold_expr-Cast, fold_stmt-Assign, fold_stmt-AddTo, fold_stmt-Declare, fold_stmt-SetLocal, fold_stmt-If, fold_stmt-For, fold_stmt-Block, fold_loop, fold_loop-out}
@@ -133,22 +133,22 @@ does_list-append w (x ∷ xs) ys at k f =
     in
     ap (then_do first) (λ i g. rest g i) ∙ sym (then_do-assoc first (does_list w xs at (suc k)) (does_list w ys at (k + suc (length xs))))
 
-pub run_list-cons : (w : Context) (x : Stmt) (xs : List Stmt) (at : List ℕ) (k : ℕ) (f : Frame) (m : Cells)
-    → run (does_list w (x ∷ xs) at k f) m
-    ≡ go_on (run ((step w x).does (at ++ k ∷ []) f) m) (λ g n. run (does_list w xs at (suc k) g) n)
-run_list-cons w x xs at k f m = run-then_do ((step w x).does (at ++ k ∷ []) f) (does_list w xs at (suc k)) m
+pub run_list-cons : (join : Joins) (w : Context) (x : Stmt) (xs : List Stmt) (at : List ℕ) (k : ℕ) (f : Frame) (m : Cells)
+    → run join (does_list w (x ∷ xs) at k f) m
+    ≡ go_on (run join ((step w x).does (at ++ k ∷ []) f) m) (λ g n. run join (does_list w xs at (suc k) g) n)
+run_list-cons join w x xs at k f m = run-then_do join ((step w x).does (at ++ k ∷ []) f) (does_list w xs at (suc k)) m
 
-pub run_list-append : (w : Context) (xs ys : List Stmt) (at : List ℕ) (k : ℕ) (f : Frame) (m : Cells)
-    → run (does_list w (xs ++ ys) at k f) m
-    ≡ go_on (run (does_list w xs at k f) m) (λ g n. run (does_list w ys at (k + length xs) g) n)
-run_list-append w xs ys at k f m =
-    ap (λ t. run t m) (does_list-append w xs ys at k f) ∙ run-then_do (does_list w xs at k f) (does_list w ys at (k + length xs)) m
+pub run_list-append : (join : Joins) (w : Context) (xs ys : List Stmt) (at : List ℕ) (k : ℕ) (f : Frame) (m : Cells)
+    → run join (does_list w (xs ++ ys) at k f) m
+    ≡ go_on (run join (does_list w xs at k f) m) (λ g n. run join (does_list w ys at (k + length xs) g) n)
+run_list-append join w xs ys at k f m =
+    ap (λ t. run join t m) (does_list-append w xs ys at k f) ∙ run-then_do join (does_list w xs at k f) (does_list w ys at (k + length xs)) m
 
-pub accesses_list-append : (w : Context) (xs ys : List Stmt) (at : List ℕ) (k : ℕ) (f : Frame) (m : Cells)
-    → accesses (does_list w (xs ++ ys) at k f) m
-    ≡ accesses (does_list w xs at k f) m ++ accesses_on (run (does_list w xs at k f) m) (λ g n. accesses (does_list w ys at (k + length xs) g) n)
-accesses_list-append w xs ys at k f m =
-    ap (λ t. accesses t m) (does_list-append w xs ys at k f) ∙ accesses-then_do (does_list w xs at k f) (does_list w ys at (k + length xs)) m
+pub accesses_list-append : (join : Joins) (w : Context) (xs ys : List Stmt) (at : List ℕ) (k : ℕ) (f : Frame) (m : Cells)
+    → accesses join (does_list w (xs ++ ys) at k f) m
+    ≡ accesses join (does_list w xs at k f) m ++ accesses_on (run join (does_list w xs at k f) m) (λ g n. accesses join (does_list w ys at (k + length xs) g) n)
+accesses_list-append join w xs ys at k f m =
+    ap (λ t. accesses join t m) (does_list-append w xs ys at k f) ∙ accesses-then_do join (does_list w xs at k f) (does_list w ys at (k + length xs)) m
 
 -- ---- the turns of a loop
 
@@ -164,13 +164,13 @@ turns-append (i ∷ is) js body f =
     ap (then_do (body (inside f i))) (λ d g. turns-append is js body (outside f g) d)
     ∙ sym (then_do-assoc (body (inside f i)) (λ g. turns is body (outside f g)) (turns js body))
 
-pub run_turns-cons : (i : ℤ) (is : List ℤ) (body : Frame → Tree Frame) (f : Frame) (m : Cells)
-    → run (turns (i ∷ is) body f) m ≡ go_on (run (body (inside f i)) m) (λ g n. run (turns is body (outside f g)) n)
-run_turns-cons i is body f m = run-then_do (body (inside f i)) (λ g. turns is body (outside f g)) m
+pub run_turns-cons : (join : Joins) (i : ℤ) (is : List ℤ) (body : Frame → Tree Frame) (f : Frame) (m : Cells)
+    → run join (turns (i ∷ is) body f) m ≡ go_on (run join (body (inside f i)) m) (λ g n. run join (turns is body (outside f g)) n)
+run_turns-cons join i is body f m = run-then_do join (body (inside f i)) (λ g. turns is body (outside f g)) m
 
-pub run_turns-append : (is js : List ℤ) (body : Frame → Tree Frame) (f : Frame) (m : Cells)
-    → run (turns (is ++ js) body f) m ≡ go_on (run (turns is body f) m) (λ g n. run (turns js body g) n)
-run_turns-append is js body f m = ap (λ t. run t m) (turns-append is js body f) ∙ run-then_do (turns is body f) (turns js body) m
+pub run_turns-append : (join : Joins) (is js : List ℤ) (body : Frame → Tree Frame) (f : Frame) (m : Cells)
+    → run join (turns (is ++ js) body f) m ≡ go_on (run join (turns is body f) m) (λ g n. run join (turns js body g) n)
+run_turns-append join is js body f m = ap (λ t. run join t m) (turns-append is js body f) ∙ run-then_do join (turns is body f) (turns js body) m
 
 -- the equations of expressions and of statements
 pub ruleset folds = (sense-Literal, sense-Iter, sense-Local, sense-Elem, sense-Unary, sense-Binary, sense-And, sense-Or, sense-Cond, sense-Cast, step-Assign, step-AddTo, step-Declare, step-SetLocal, step-If, step-For, step-Block, loop-roll)

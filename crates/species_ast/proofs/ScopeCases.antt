@@ -1,6 +1,6 @@
 -- Cases at the edges of the rules: other names in the header of a loop, several faults at one loop, how many elements an array has,
 -- and the forms of a header.
-use Rattle.std.proofs.Common.{refl, ℕ, ◌+◌, List, [], ◌∷◌, Some, None, true, false, ℤ, pos, negsuc, neg_ℤ, Result}
+use Rattle.std.proofs.Common.{◌≡◌, refl, ℕ, ◌+◌, List, [], ◌∷◌, Some, None, Bool, true, false, ◌&&◌, ℤ, pos, negsuc, neg_ℤ, Result}
 use Rattle.std.specs.Prelude.{codes}
 use Prim.Native.String.{String}
 use Rattle.species_ast.specs.declared.tree.Kind.TheVariants as kind
@@ -13,7 +13,8 @@ use Rattle.species_ast.specs.declared.tree.Stmt.TheVariants as stmt
 use Rattle.species_ast.specs.declared.tree.Loop.{roll-Loop}
 use Rattle.species_ast.specs.declared.tree.Unit.{Unit}
 use Rattle.species_ast.specs.Scope.Refusals.{Limit, Refusal, Finding}
-use Rattle.species_ast.proofs.ScopeParts.{Known, at, num, var, bin, neg, Does, plain, declare, empty, KnownStep, plus_plus, plus_plus_before, minus_minus, minus_minus_before, add_by, sub_by, set_add, set_sub, loop, count_up, old_loop, marked, KnownProgram, program, answers, answer, refused, k_at_5, k_at_15, a4, int, unit, fronts, folded}
+use Rattle.species_ast.specs.Scope.Limits.{has_lawful_sizes}
+use Rattle.species_ast.proofs.ScopeParts.{Known, at, num, var, bin, neg, Does, plain, declare, empty, KnownStep, plus_plus, plus_plus_before, minus_minus, minus_minus_before, add_by, sub_by, set_add, set_sub, loop, count_up, old_loop, marked, KnownProgram, program, answers, answer, becomes, become, refused, k_at_5, k_at_15, a4, int, unit, folded}
 
 -- ---- other names in a header
 
@@ -109,81 +110,37 @@ array_in_header = answer array_tested _ (simp folded refl)
 abbrev marked_loop : ℕ → ℕ → String → Known → KnownStep → Does → Does
 marked_loop depth p n limit by s = loop p (record { parallel = Some (depth, schedule.Static); typed = true; iter = at (p + 9) n; start = num (p + 13) 0; tested = at (p + 16) n; test = test.Lt; limit = limit; step = by; body = s })
 
--- three lines: `void k(void) {`, `#pragma omp parallel for collapse(2)` and `for (int i = 0; i < 4; i += 65537) ; }`: the step is too
--- far and there is no second loop; the limit has the lesser number
-abbrev far_and_shallow : KnownProgram
-far_and_shallow = program [] k_at_5 (marked_loop 2 52 "i" (num 72 4) (add_by 75 "i" (num 80 65537)) (empty 87) ∷ [])
-
-limit_before_mark : answers far_and_shallow (refused (Refusal.LimitPassed Limit.Step) 52)
-limit_before_mark = answer far_and_shallow _ (simp fronts (simp folded refl))
-
--- the same with `i += 0`: steps are looked at before marks
+-- three lines: `void k(void) {`, `#pragma omp parallel for collapse(2)` and `for (int i = 0; i < 4; i += 0) ; }`: there is no second
+-- loop, and steps are looked at before marks
 abbrev still_and_shallow : KnownProgram
 still_and_shallow = program [] k_at_5 (marked_loop 2 52 "i" (num 72 4) (add_by 75 "i" (num 80 0)) (empty 83) ∷ [])
 
 step_before_mark : answers still_and_shallow (refused Refusal.BadStep 52)
 step_before_mark = answer still_and_shallow _ (simp folded refl)
 
--- `void k(void) {`, `#pragma omp parallel for collapse(2)` and `for (int i = 0; i < 4; i++) for (int j = 0; j < i; j += 65537) ; }`:
--- a mark that does not fit, and a far step further on; both are of one group, and the first `for` stands before the second
-abbrev unfit_then_far : KnownProgram
-unfit_then_far = program [] k_at_5 (marked 2 52 "i" (num 72 4) (loop 80 (record { parallel = None; typed = true; iter = at 89 "j"; start = num 93 0; tested = at 96 "j"; test = test.Lt; limit = var 100 "i"; step = add_by 103 "j" (num 108 65537); body = empty 115 })) ∷ [])
-
-mark_before_later_limit : answers unfit_then_far (refused Refusal.BadMark 52)
-mark_before_later_limit = answer unfit_then_far _ (simp fronts (simp folded refl))
-
--- the same with `j--`: the second loop's step is looked at before the first loop's mark
+-- `void k(void) {`, `#pragma omp parallel for collapse(2)` and `for (int i = 0; i < 4; i++) for (int j = 0; j < i; j--) ; }`: the second
+-- loop's step is looked at before the first loop's mark
 abbrev unfit_then_wrong : KnownProgram
 unfit_then_wrong = program [] k_at_5 (marked 2 52 "i" (num 72 4) (loop 80 (record { parallel = None; typed = true; iter = at 89 "j"; start = num 93 0; tested = at 96 "j"; test = test.Lt; limit = var 100 "i"; step = minus_minus 103 "j"; body = empty 108 })) ∷ [])
 
 later_step_before_mark : answers unfit_then_wrong (refused Refusal.BadStep 80)
 later_step_before_mark = answer unfit_then_wrong _ (simp folded refl)
 
--- `void k(void) {`, `#pragma omp parallel for`, `for (int i = 0; i < 4; i += 65537)`, `#pragma omp parallel for` and
--- `for (int j = 0; j < 4; j++) ; }`: a far step, and a mark inside that parallel loop
-abbrev far_then_marked : KnownProgram
-far_then_marked = program [] k_at_5 (marked_loop 1 40 "i" (num 60 4) (add_by 63 "i" (num 68 65537)) (marked 1 100 "j" (num 120 4) (empty 128)) ∷ [])
-
-limit_before_later_mark : answers far_then_marked (refused (Refusal.LimitPassed Limit.Step) 40)
-limit_before_later_mark = answer far_then_marked _ (simp fronts (simp folded refl))
-
--- nine loops, one in the other, each 40 behind the one before, of which the last goes by 65537: two limits at one `for`
-abbrev deep_and_far : KnownProgram
-deep_and_far = program [] k_at_5 (
-    count_up 20 "a" (num 40 4) (count_up 60 "b" (num 80 4) (count_up 100 "c" (num 120 4) (count_up 140 "d" (num 160 4) (
-    count_up 180 "e" (num 200 4) (count_up 220 "f" (num 240 4) (count_up 260 "g" (num 280 4) (count_up 300 "h" (num 320 4) (
-    counting_i 340 "i" (add_by 363 "i" (num 368 65537)) (empty 375))))))))) ∷ [])
-
-depth_before_step : answers deep_and_far (refused (Refusal.LimitPassed Limit.Loops) 340)
-depth_before_step = answer deep_and_far _ (simp folded refl)
-
 -- ---- how many elements an array has
+
+abbrev has_sizes : List ℕ → Bool
+has_sizes sizes = has_lawful_sizes (record { name = codes "A"; kind = kind.Int; dims = sizes })
+
+-- the greatest number, in three spellings
+most_elements_fit : (has_sizes (16777216 ∷ []) && (has_sizes (4096 ∷ 4096 ∷ []) && has_sizes (1 ∷ 16777216 ∷ 1 ∷ 1 ∷ []))) ≡ true
+most_elements_fit = refl
 
 -- `int A[..]..; void k(void) { }`
 abbrev with_array : List Known → ℕ → KnownProgram
 with_array sizes p = program (record { name = at 4 "A"; sizes = sizes } ∷ []) (at p "k") []
 
-abbrev of_sizes : List ℕ → Result Unit Finding
-of_sizes sizes = unit (record { name = codes "A"; kind = kind.Int; dims = sizes } ∷ []) [] []
-
 abbrev too_many : ℕ → Result Unit Finding
 too_many p = refused (Refusal.LimitPassed Limit.Elements) p
-
--- `int A[16777216]; void k(void) { }`, the greatest number of elements, in four spellings
-most_in_one : answers (with_array (num 6 16777216 ∷ []) 22) (of_sizes (16777216 ∷ []))
-most_in_one = answer (with_array (num 6 16777216 ∷ []) 22) _ (simp folded refl)
-
--- `int A[4096][4096]; void k(void) { }`
-most_in_two : answers (with_array (num 6 4096 ∷ num 12 4096 ∷ []) 24) (of_sizes (4096 ∷ 4096 ∷ []))
-most_in_two = answer (with_array (num 6 4096 ∷ num 12 4096 ∷ []) 24) _ (simp folded refl)
-
--- `int A[4096 * 4096]; void k(void) { }`
-most_as_product : answers (with_array (bin 6 binary.Mul (num 6 4096) (num 13 4096) ∷ []) 25) (of_sizes (16777216 ∷ []))
-most_as_product = answer (with_array (bin 6 binary.Mul (num 6 4096) (num 13 4096) ∷ []) 25) _ (simp folded refl)
-
--- `int A[1][16777216][1][1]; void k(void) { }`
-most_in_four : answers (with_array (num 6 1 ∷ num 9 16777216 ∷ num 19 1 ∷ num 22 1 ∷ []) 31) (of_sizes (1 ∷ 16777216 ∷ 1 ∷ 1 ∷ []))
-most_in_four = answer (with_array (num 6 1 ∷ num 9 16777216 ∷ num 19 1 ∷ num 22 1 ∷ []) 31) _ (simp folded refl)
 
 -- `int A[4], B[16777217]; void k(void) { }`: one more, in the second array
 abbrev second_array : KnownProgram
@@ -218,7 +175,7 @@ size_past_forms = answer (with_array (bin 6 binary.Add (num 6 2147483647) (num 1
 abbrev headed : Test → KnownStep → KnownProgram
 headed c by = program [] k_at_5 (loop 15 (record { parallel = None; typed = true; iter = at 24 "i"; start = num 28 0; tested = at 31 "i"; test = c; limit = num 36 4; step = by; body = empty 55 }) ∷ [])
 
-abbrev goes_by : Test → ℤ → Result Unit Finding
+abbrev goes_by : Test → ℤ → Unit
 goes_by c n = unit [] [] (stmt.For (roll-Loop (record { place = 15; iter = codes "i"; start = int 0; test = c; limit = int 4; step = n; body = []; line = None; mark = mark.Plain })) ∷ [])
 
 abbrev bad_step : Result Unit Finding
@@ -226,53 +183,53 @@ bad_step = refused Refusal.BadStep 15
 
 -- the eight steps
 -- `i < 4; i++`
-up_while_less : answers (headed test.Lt (plus_plus 39 "i")) (goes_by test.Lt (pos 1))
-up_while_less = answer (headed test.Lt (plus_plus 39 "i")) _ (simp folded refl)
+up_while_less : becomes (headed test.Lt (plus_plus 39 "i")) (goes_by test.Lt (pos 1))
+up_while_less = become (headed test.Lt (plus_plus 39 "i")) _ refl
 
 -- `i <= 4; ++i`
-up_before_while_at_most : answers (headed test.Le (plus_plus_before 41 "i")) (goes_by test.Le (pos 1))
-up_before_while_at_most = answer (headed test.Le (plus_plus_before 41 "i")) _ (simp folded refl)
+up_before_while_at_most : becomes (headed test.Le (plus_plus_before 41 "i")) (goes_by test.Le (pos 1))
+up_before_while_at_most = become (headed test.Le (plus_plus_before 41 "i")) _ refl
 
 -- `i > 4; i--`
-down_while_greater : answers (headed test.Gt (minus_minus 39 "i")) (goes_by test.Gt (negsuc 0))
-down_while_greater = answer (headed test.Gt (minus_minus 39 "i")) _ (simp folded refl)
+down_while_greater : becomes (headed test.Gt (minus_minus 39 "i")) (goes_by test.Gt (negsuc 0))
+down_while_greater = become (headed test.Gt (minus_minus 39 "i")) _ refl
 
 -- `i >= 4; --i`
-down_before_while_at_least : answers (headed test.Ge (minus_minus_before 41 "i")) (goes_by test.Ge (negsuc 0))
-down_before_while_at_least = answer (headed test.Ge (minus_minus_before 41 "i")) _ (simp folded refl)
+down_before_while_at_least : becomes (headed test.Ge (minus_minus_before 41 "i")) (goes_by test.Ge (negsuc 0))
+down_before_while_at_least = become (headed test.Ge (minus_minus_before 41 "i")) _ refl
 
 -- `i <= 4; i += 3`
-add_while_at_most : answers (headed test.Le (add_by 39 "i" (num 44 3))) (goes_by test.Le (pos 3))
-add_while_at_most = answer (headed test.Le (add_by 39 "i" (num 44 3))) _ (simp folded refl)
+add_while_at_most : becomes (headed test.Le (add_by 39 "i" (num 44 3))) (goes_by test.Le (pos 3))
+add_while_at_most = become (headed test.Le (add_by 39 "i" (num 44 3))) _ (simp folded refl)
 
 -- `i >= 4; i -= 3`
-subtract_while_at_least : answers (headed test.Ge (sub_by 39 "i" (num 44 3))) (goes_by test.Ge (neg_ℤ (pos 3)))
-subtract_while_at_least = answer (headed test.Ge (sub_by 39 "i" (num 44 3))) _ (simp folded refl)
+subtract_while_at_least : becomes (headed test.Ge (sub_by 39 "i" (num 44 3))) (goes_by test.Ge (neg_ℤ (pos 3)))
+subtract_while_at_least = become (headed test.Ge (sub_by 39 "i" (num 44 3))) _ (simp folded refl)
 
 -- `i < 4; i = i + 3`
-sum_while_less : answers (headed test.Lt (set_add 39 "i" "i" (num 47 3))) (goes_by test.Lt (pos 3))
-sum_while_less = answer (headed test.Lt (set_add 39 "i" "i" (num 47 3))) _ (simp folded refl)
+sum_while_less : becomes (headed test.Lt (set_add 39 "i" "i" (num 47 3))) (goes_by test.Lt (pos 3))
+sum_while_less = become (headed test.Lt (set_add 39 "i" "i" (num 47 3))) _ (simp folded refl)
 
 -- `i > 4; i = i - 3`
-difference_while_greater : answers (headed test.Gt (set_sub 39 "i" "i" (num 47 3))) (goes_by test.Gt (neg_ℤ (pos 3)))
-difference_while_greater = answer (headed test.Gt (set_sub 39 "i" "i" (num 47 3))) _ (simp folded refl)
+difference_while_greater : becomes (headed test.Gt (set_sub 39 "i" "i" (num 47 3))) (goes_by test.Gt (neg_ℤ (pos 3)))
+difference_while_greater = become (headed test.Gt (set_sub 39 "i" "i" (num 47 3))) _ (simp folded refl)
 
 -- a constant below 0 turns the direction
 -- `i > 4; i += -3`
-add_negative : answers (headed test.Gt (add_by 39 "i" (neg 44 (num 45 3)))) (goes_by test.Gt (neg_ℤ (pos 3)))
-add_negative = answer (headed test.Gt (add_by 39 "i" (neg 44 (num 45 3)))) _ (simp folded refl)
+add_negative : becomes (headed test.Gt (add_by 39 "i" (neg 44 (num 45 3)))) (goes_by test.Gt (neg_ℤ (pos 3)))
+add_negative = become (headed test.Gt (add_by 39 "i" (neg 44 (num 45 3)))) _ (simp folded refl)
 
 -- `i <= 4; i -= -3`
-subtract_negative : answers (headed test.Le (sub_by 39 "i" (neg 44 (num 45 3)))) (goes_by test.Le (pos 3))
-subtract_negative = answer (headed test.Le (sub_by 39 "i" (neg 44 (num 45 3)))) _ (simp folded refl)
+subtract_negative : becomes (headed test.Le (sub_by 39 "i" (neg 44 (num 45 3)))) (goes_by test.Le (pos 3))
+subtract_negative = become (headed test.Le (sub_by 39 "i" (neg 44 (num 45 3)))) _ (simp folded refl)
 
 -- `i >= 4; i = i + -3`
-sum_negative : answers (headed test.Ge (set_add 39 "i" "i" (neg 47 (num 48 3)))) (goes_by test.Ge (neg_ℤ (pos 3)))
-sum_negative = answer (headed test.Ge (set_add 39 "i" "i" (neg 47 (num 48 3)))) _ (simp folded refl)
+sum_negative : becomes (headed test.Ge (set_add 39 "i" "i" (neg 47 (num 48 3)))) (goes_by test.Ge (neg_ℤ (pos 3)))
+sum_negative = become (headed test.Ge (set_add 39 "i" "i" (neg 47 (num 48 3)))) _ (simp folded refl)
 
 -- `i > 4; i = i - 2 * 3`
-difference_of_product : answers (headed test.Gt (set_sub 39 "i" "i" (bin 47 binary.Mul (num 47 2) (num 51 3)))) (goes_by test.Gt (neg_ℤ (pos 6)))
-difference_of_product = answer (headed test.Gt (set_sub 39 "i" "i" (bin 47 binary.Mul (num 47 2) (num 51 3)))) _ (simp folded refl)
+difference_of_product : becomes (headed test.Gt (set_sub 39 "i" "i" (bin 47 binary.Mul (num 47 2) (num 51 3)))) (goes_by test.Gt (neg_ℤ (pos 6)))
+difference_of_product = become (headed test.Gt (set_sub 39 "i" "i" (bin 47 binary.Mul (num 47 2) (num 51 3)))) _ (simp folded refl)
 
 -- steps that go the wrong way, or not at all
 -- `i <= 4; --i`
@@ -301,13 +258,9 @@ add_itself = answer (headed test.Lt (add_by 39 "i" (var 44 "i"))) _ (simp folded
 
 -- the longest steps, and one more
 -- `i < 4; i += 65536`
-longest_up : answers (headed test.Lt (add_by 39 "i" (num 44 65536))) (goes_by test.Lt (pos 65536))
-longest_up = answer (headed test.Lt (add_by 39 "i" (num 44 65536))) _ (simp folded refl)
+longest_up : becomes (headed test.Lt (add_by 39 "i" (num 44 65536))) (goes_by test.Lt (pos 65536))
+longest_up = become (headed test.Lt (add_by 39 "i" (num 44 65536))) _ (simp folded refl)
 
 -- `i > 4; i -= 65536`
-longest_down : answers (headed test.Gt (sub_by 39 "i" (num 44 65536))) (goes_by test.Gt (neg_ℤ (pos 65536)))
-longest_down = answer (headed test.Gt (sub_by 39 "i" (num 44 65536))) _ (simp folded refl)
-
--- `i >= 4; i = i - 65537`
-too_long_down : answers (headed test.Ge (set_sub 39 "i" "i" (num 47 65537))) (refused (Refusal.LimitPassed Limit.Step) 15)
-too_long_down = answer (headed test.Ge (set_sub 39 "i" "i" (num 47 65537))) _ (simp folded refl)
+longest_down : becomes (headed test.Gt (sub_by 39 "i" (num 44 65536))) (goes_by test.Gt (neg_ℤ (pos 65536)))
+longest_down = become (headed test.Gt (sub_by 39 "i" (num 44 65536))) _ (simp folded refl)

@@ -15,7 +15,7 @@ use Rattle.species_ast.specs.declared.tree.Array.{Array}
 use Rattle.species_ast.specs.declared.raw.RawOp.TheVariants as op
 use Rattle.species_ast.specs.Scope.Refusals.{Limit, Refusal}
 use Rattle.species_ast.specs.Scope.WellMade.{Around, list_holds, made}
-use Rattle.species_ast.proofs.ScopeParts.{at, num, spot, elem, var, bin, set, up, down_before, atomic, plain, with_value, declare, block, empty, if_else, KnownStep, plus_plus, minus_minus, add_by, loop, count_up, old_loop, marked, KnownProgram, program, answers, answer, refused, k_at_5, k_at_15, a4, int, unit, int_local, array_a, loop_to_4, folded}
+use Rattle.species_ast.proofs.ScopeParts.{at, num, spot, elem, var, bin, set, up, down_before, atomic, plain, with_value, declare, block, empty, if_else, KnownStep, plus_plus, minus_minus, add_by, loop, count_up, old_loop, marked, KnownProgram, program, answers, answer, becomes, become, refused, k_at_5, k_at_15, a4, int, unit, int_local, array_a, loop_to_4, folded}
 
 -- ---- names
 
@@ -207,40 +207,6 @@ five_dimensions = program (record { name = at 4 "A"; sizes = num 6 1 ∷ num 9 1
 dimensions_first : answers five_dimensions (refused (Refusal.LimitPassed Limit.Dims) 4)
 dimensions_first = answer five_dimensions _ (simp folded refl)
 
-long_step : answers (with_step "i" (add_by 38 "i" (num 43 65537))) (refused (Refusal.LimitPassed Limit.Step) 15)
-long_step = answer (with_step "i" (add_by 38 "i" (num 43 65537))) _ (simp folded refl)
-
--- nine loops, one in the other, each 40 behind the one before
-abbrev nine_loops : KnownProgram
-nine_loops = program [] k_at_5 (
-    count_up 20 "a" (num 40 4) (count_up 60 "b" (num 80 4) (count_up 100 "c" (num 120 4) (
-    count_up 140 "d" (num 160 4) (count_up 180 "e" (num 200 4) (count_up 220 "f" (num 240 4) (
-    count_up 260 "g" (num 280 4) (count_up 300 "h" (num 320 4) (count_up 340 "i" (num 360 4) (empty 380))))))))) ∷ [])
-
-ninth_loop : answers nine_loops (refused (Refusal.LimitPassed Limit.Loops) 340)
-ninth_loop = answer nine_loops _ (simp folded refl)
-
--- a second mark inside
-abbrev mark_in_nest : KnownProgram
-mark_in_nest = program [] k_at_5 (marked 1 20 "i" (num 40 4) (marked 1 60 "j" (num 80 4) (empty 90)) ∷ [])
-
-marked_twice : answers mark_in_nest (refused Refusal.BadMark 60)
-marked_twice = answer mark_in_nest _ (simp folded refl)
-
--- a mark of depth 2, and a second loop that is bounded by the first
-abbrev triangle : KnownProgram
-triangle = program [] k_at_5 (marked 2 20 "i" (num 40 4) (count_up 60 "j" (var 80 "i") (empty 90)) ∷ [])
-
-marked_triangle : answers triangle (refused Refusal.BadMark 20)
-marked_triangle = answer triangle _ (simp folded refl)
-
--- the same where the first loop's iterator cancels out
-abbrev cancelled : KnownProgram
-cancelled = program [] k_at_5 (marked 2 20 "i" (num 40 4) (count_up 60 "j" (bin 80 binary.Sub (var 80 "i") (var 84 "i")) (empty 90)) ∷ [])
-
-marked_cancelled : answers cancelled (refused Refusal.BadMark 20)
-marked_cancelled = answer cancelled _ (simp folded refl)
-
 -- `int A[16777217]; void k(void) { }`
 abbrev large : KnownProgram
 large = program (record { name = at 4 "A"; sizes = num 6 16777217 ∷ [] } ∷ []) (at 22 "k") []
@@ -248,48 +214,41 @@ large = program (record { name = at 4 "A"; sizes = num 6 16777217 ∷ [] } ∷ [
 large_array : answers large (refused (Refusal.LimitPassed Limit.Elements) 4)
 large_array = answer large _ (simp folded refl)
 
--- a mark of depth 2, and one loop
-abbrev shallow : KnownProgram
-shallow = program [] k_at_5 (marked 2 20 "i" (num 40 4) (empty 90) ∷ [])
-
-marked_too_deep : answers shallow (refused Refusal.BadMark 20)
-marked_too_deep = answer shallow _ (simp folded refl)
-
 -- ---- units
 
 -- `void k(void) { int x; if (1) x -= 1; else ; }`
 abbrev branches : KnownProgram
 branches = program [] k_at_5 (declare 15 kind.Int (plain 19 "x" ∷ []) ∷ if_else 22 (num 26 1) (set 29 (spot 29 "x" []) op.Sub (num 34 1)) (empty 42) ∷ [])
 
-empty_else : answers branches (unit [] (int_local "x" ∷ []) (
+empty_else : becomes branches (unit [] (int_local "x" ∷ []) (
     stmt.Declare 19 0 None
     ∷ stmt.If 22 (int 1) (stmt.SetLocal 29 0 (expr.Binary binary.Sub (expr.Local 0) (int 1)) ∷ []) [] ∷ []))
-empty_else = answer branches _ refl
+empty_else = become branches _ refl
 
 -- `int A[4]; void k(void) { for (int i = 0; i < 4; i++) { A[i]++; --A[i]; } }`
 abbrev changes : KnownProgram
 changes = program (a4 ∷ []) k_at_15 (count_up 25 "i" (num 45 4) (block 53 (up 55 (spot 55 "A" (var 57 "i" ∷ [])) ∷ down_before 63 (spot 65 "A" (var 67 "i" ∷ [])) ∷ [])) ∷ [])
 
-increments : answers changes (unit (array_a ∷ []) [] (loop_to_4 25 "i" (
+increments : becomes changes (unit (array_a ∷ []) [] (loop_to_4 25 "i" (
     stmt.AddTo 55 0 (expr.Iter 0 ∷ []) (int 1) false
     ∷ stmt.Assign 63 0 (expr.Iter 0 ∷ []) (expr.Binary binary.Sub (expr.Elem 0 (expr.Iter 0 ∷ [])) (int 1)) ∷ []) ∷ []))
-increments = answer changes _ (simp folded refl)
+increments = become changes _ (simp folded refl)
 
 -- `void k(void) { int i, x; for (i = 0; i < 4; i++) x = i; }`: `i` leaves nothing behind, so `x` has the number 0
 abbrev two_locals : KnownProgram
 two_locals = program [] k_at_5 (declare 15 kind.Int (plain 19 "i" ∷ plain 22 "x" ∷ []) ∷ old_loop 25 "i" (num 34 0) (set 49 (spot 49 "x" []) op.Plain (var 53 "i")) ∷ [])
 
-numbers_of_locals : answers two_locals (unit [] (int_local "x" ∷ []) (
+numbers_of_locals : becomes two_locals (unit [] (int_local "x" ∷ []) (
     stmt.Declare 22 0 None ∷ loop_to_4 25 "i" (stmt.SetLocal 49 0 (expr.Iter 0) ∷ []) ∷ []))
-numbers_of_locals = answer two_locals _ (simp folded refl)
+numbers_of_locals = become two_locals _ refl
 
 -- `void k(void) { { int x; { } } { int x; ; } }`: two locals of one name, and a block in a block
 abbrev blocks : KnownProgram
 blocks = program [] k_at_5 (block 15 (declare 17 kind.Int (plain 21 "x" ∷ []) ∷ block 24 [] ∷ []) ∷ block 30 (declare 32 kind.Int (plain 36 "x" ∷ []) ∷ empty 39 ∷ []) ∷ [])
 
-nested_blocks : answers blocks (unit [] (int_local "x" ∷ int_local "x" ∷ []) (
+nested_blocks : becomes blocks (unit [] (int_local "x" ∷ int_local "x" ∷ []) (
     stmt.Block (stmt.Declare 21 0 None ∷ stmt.Block [] ∷ []) ∷ stmt.Block (stmt.Declare 36 1 None ∷ []) ∷ []))
-nested_blocks = answer blocks _ refl
+nested_blocks = become blocks _ refl
 
 -- a mark of depth 2 on a loop over a block of one loop: it fits
 abbrev two_deep : KnownProgram
@@ -298,21 +257,21 @@ two_deep = program [] k_at_5 (marked 2 20 "i" (num 40 4) (block 50 (block 55 (co
 abbrev two_deep_body : List Stmt
 two_deep_body = stmt.For (roll-Loop (record { place = 20; iter = codes "i"; start = int 0; test = test.Lt; limit = int 4; step = pos 1; body = stmt.Block (loop_to_4 60 "j" [] ∷ []) ∷ []; line = None; mark = mark.Parallel 2 schedule.Static })) ∷ []
 
-marked_two_deep : answers two_deep (unit [] [] two_deep_body)
-marked_two_deep = answer two_deep _ (simp folded refl)
+marked_two_deep : becomes two_deep (unit [] [] two_deep_body)
+marked_two_deep = become two_deep _ refl
 
--- its unit is well made ..
+-- what its unit names is there, and its loops have bounds and steps ..
 abbrev outside_all : List Array → Around
-outside_all arrays = record { arrays = arrays; locals = []; level = 0; in_nest = false }
+outside_all arrays = record { arrays = arrays; locals = []; level = 0 }
 
 two_deep_made : list_holds (map made two_deep_body) (outside_all []) ≡ true
 two_deep_made = simp folded refl
 
--- .. and a statement that sets a local which is declared in an earlier block is not
+-- .. but a statement sets here a local which is declared in an earlier block
 lost_local : list_holds (map made (stmt.Block (stmt.Declare 0 0 None ∷ []) ∷ stmt.SetLocal 9 0 (int 1) ∷ [])) (outside_all []) ≡ false
 lost_local = simp folded refl
 
--- nor is an element with two subscripts of an array of one dimension
+-- and here an element has two subscripts, of an array of one dimension
 one_dimension : list_holds (map made (stmt.Assign 0 0 (int 1 ∷ int 2 ∷ []) (int 1) ∷ [])) (outside_all (array_a ∷ [])) ≡ false
 one_dimension = simp folded refl
 
@@ -320,25 +279,25 @@ one_dimension = simp folded refl
 abbrev atomics : KnownProgram
 atomics = program (a4 ∷ []) k_at_15 (declare 25 kind.Int (plain 29 "x" ∷ []) ∷ atomic 60 (spot 60 "x" []) (num 65 1) ∷ atomic 100 (spot 100 "A" (num 102 0 ∷ [])) (num 108 1) ∷ [])
 
-atomic_on_local : answers atomics (unit (array_a ∷ []) (int_local "x" ∷ []) (
+atomic_on_local : becomes atomics (unit (array_a ∷ []) (int_local "x" ∷ []) (
     stmt.Declare 29 0 None
     ∷ stmt.SetLocal 60 0 (expr.Binary binary.Add (expr.Local 0) (int 1))
     ∷ stmt.AddTo 100 0 (int 0 ∷ []) (int 1) true ∷ []))
-atomic_on_local = answer atomics _ (simp folded refl)
+atomic_on_local = become atomics _ (simp folded refl)
 
 -- `i += i - i + 2` is a step of 2
 abbrev by_two : KnownProgram
 by_two = with_step "i" (add_by 38 "i" (bin 43 binary.Add (bin 43 binary.Sub (var 43 "i") (var 47 "i")) (num 51 2)))
 
-constant_step : answers by_two (unit [] [] (stmt.For (roll-Loop (record { place = 15; iter = codes "i"; start = int 0; test = test.Lt; limit = int 4; step = pos 2; body = []; line = None; mark = mark.Plain })) ∷ []))
-constant_step = answer by_two _ (simp folded refl)
+constant_step : becomes by_two (unit [] [] (stmt.For (roll-Loop (record { place = 15; iter = codes "i"; start = int 0; test = test.Lt; limit = int 4; step = pos 2; body = []; line = None; mark = mark.Plain })) ∷ []))
+constant_step = become by_two _ (simp folded refl)
 
 -- `void k(void) { int i; for (i = 0; i < 4; i++) ; for (i = 0; i < 4; i++) ; }`
 abbrev two_loops : KnownProgram
 two_loops = program [] k_at_5 (declare 15 kind.Int (plain 19 "i" ∷ []) ∷ old_loop 22 "i" (num 31 0) (empty 46) ∷ old_loop 48 "i" (num 57 0) (empty 72) ∷ [])
 
-one_local_twice : answers two_loops (unit [] [] (loop_to_4 22 "i" [] ∷ loop_to_4 48 "i" [] ∷ []))
-one_local_twice = answer two_loops _ (simp folded refl)
+one_local_twice : becomes two_loops (unit [] [] (loop_to_4 22 "i" [] ∷ loop_to_4 48 "i" [] ∷ []))
+one_local_twice = become two_loops _ refl
 
 -- a bound that is not affine, and behind it a name without a meaning: names are looked at first
 abbrev bound_then_name : KnownProgram

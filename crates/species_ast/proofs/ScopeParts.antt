@@ -1,6 +1,6 @@
 -- Parts of programs of which is known what they become, for worked examples: each is a piece of the raw tree, what it becomes,
 -- and that it does.
-use Rattle.std.proofs.Common.{◌≡◌, ◌∙◌, ap, refl, ℕ, ◌+◌, List, [], ◌∷◌, map, flat_map, Option, Some, None, option_map, Bool, true, false, pos, negsuc, neg_ℤ, Result, Ok, Err}
+use Rattle.std.proofs.Common.{◌≡◌, ◌∙◌, ap, refl, ℕ, ◌+◌, List, [], ◌∷◌, map, flat_map, Option, Some, None, option_map, Bool, true, false, pos, negsuc, neg_ℤ, Result, Err}
 use Rattle.std.specs.Prelude.{codes}
 use Rattle.std.specs.List.{filter_map}
 use Prim.Native.String.{String}
@@ -45,9 +45,9 @@ use Rattle.species_ast.specs.Scope.Expressions.{ExprReading, ResolvedTarget, rea
 use Rattle.species_ast.specs.Scope.Statements.{Walk, StepReading, step_by, step_one, step_reading, in_order, local_piece, declarator, change_by, change_by_one, operated, increased, combined, atomic_piece, if_piece, block_piece, empty_piece, loop_piece, stmt_piece}
 use Rattle.species_ast.specs.Scope.Programs.{SizeParts, size_parts, ArrayParts, Program, program_with, in_two_walks, program_of, arrays_of, header_of}
 use Rattle.species_ast.specs.Scope.Refusals.{Refusal, Finding}
-use Rattle.species_ast.specs.Scope.Limits.{NestLimits}
-use Rattle.species_ast.specs.Scope.Conditions.{answer_of, resolved}
+use Rattle.species_ast.specs.Scope.Conditions.{resolution_of, resolved}
 use Rattle.species_ast.proofs.Folds.{fold_expr-Literal, fold_expr-Iter, fold_expr-Local, fold_expr-Elem, fold_expr-Unary, fold_expr-Binary, fold_stmt-Assign, fold_stmt-AddTo, fold_stmt-Declare, fold_stmt-SetLocal, fold_stmt-If, fold_stmt-For, fold_stmt-Block, fold_loop}
+use Rattle.species_ast.proofs.Paras.{para_expr-Literal, para_expr-Iter, para_expr-Local, para_expr-Elem, para_expr-Unary, para_expr-Binary, para_stmt-Assign, para_stmt-AddTo, para_stmt-Declare, para_stmt-SetLocal, para_stmt-If, para_stmt-For, para_stmt-Block, para_loop}
 use Rattle.species_ast.proofs.ScopeLaws.{reading-Number, reading-Target, reading-Unary, reading-Binary, readings, target_with, target_in-target, stmt_piece-Declare, stmt_piece-Block, stmt_piece-Empty, stmt_piece-If, stmt_piece-IfElse, stmt_piece-Change, stmt_piece-Atomic, stmt_piece-Loop}
 
 -- ---- expressions
@@ -399,16 +399,19 @@ program xs f ss = record {
   is = λ i. in_two_walks (program_with (no_headers xs i) (arrays_are xs i) f (walks_are ss i));
 }
 
--- limits of ranges and references that nothing passes
-abbrev pub no_limits : NestLimits
-no_limits = record { hull = λ u. []; bound = λ u. []; sizes = λ u. [] }
-
 abbrev pub answers : KnownProgram → Result Unit Finding → Type 0
-answers u a = resolved no_limits u.raw ≡ a
+answers u a = resolved u.raw ≡ a
 
 -- the answer is that of what the program is known to become
-pub answer : (u : KnownProgram) (a : Result Unit Finding) → answer_of no_limits u.program ≡ a → answers u a
-answer u a h = ap (answer_of no_limits) u.is ∙ h
+pub answer : (u : KnownProgram) (a : Result Unit Finding) → resolution_of u.program ≡ a → answers u a
+answer u a h = ap resolution_of u.is ∙ h
+
+-- the unit that a program becomes, whether or not something in it is refused
+abbrev pub becomes : KnownProgram → Unit → Type 0
+becomes u a = (program_of u.raw).unit ≡ a
+
+pub become : (u : KnownProgram) (a : Unit) → u.program.unit ≡ a → becomes u a
+become u a h = ap (λ p. p.unit) u.is ∙ h
 
 abbrev pub refused : Refusal → ℕ → Result Unit Finding
 refused r p = Err (record { refusal = r; place = p })
@@ -428,8 +431,8 @@ a4 = record { name = at 4 "A"; sizes = num 6 4 ∷ [] }
 abbrev pub int : ℕ → Expr
 int n = expr.Literal (value.Int (pos n))
 
-abbrev pub unit : List Array → List LocalInfo → List Stmt → Result Unit Finding
-unit arrays locals body = Ok (record { includes = []; arrays = arrays; locals = locals; function = codes "k"; body = body })
+abbrev pub unit : List Array → List LocalInfo → List Stmt → Unit
+unit arrays locals body = record { includes = []; arrays = arrays; locals = locals; function = codes "k"; body = body }
 
 abbrev pub int_local : String → LocalInfo
 int_local n = record { name = codes n; kind = kind.Int }
@@ -444,6 +447,6 @@ loop_to_4 p n body = stmt.For (roll-Loop (record { place = p; iter = codes n; st
 -- ---- computing
 
 -- the fronts of loops, and the forms of expressions and the fronts of loops, part by part
-pub ruleset fronts = (fold_stmt-Assign, fold_stmt-AddTo, fold_stmt-Declare, fold_stmt-SetLocal, fold_stmt-If, fold_stmt-For, fold_stmt-Block, fold_loop)
+pub ruleset fronts = (fold_stmt-Assign, fold_stmt-AddTo, fold_stmt-Declare, fold_stmt-SetLocal, fold_stmt-If, fold_stmt-For, fold_stmt-Block, fold_loop, para_stmt-Assign, para_stmt-AddTo, para_stmt-Declare, para_stmt-SetLocal, para_stmt-If, para_stmt-For, para_stmt-Block, para_loop)
 
-pub ruleset folded = (fold_expr-Literal, fold_expr-Iter, fold_expr-Local, fold_expr-Elem, fold_expr-Unary, fold_expr-Binary, fold_stmt-Assign, fold_stmt-AddTo, fold_stmt-Declare, fold_stmt-SetLocal, fold_stmt-If, fold_stmt-For, fold_stmt-Block, fold_loop)
+pub ruleset folded = (para_expr-Literal, para_expr-Iter, para_expr-Local, para_expr-Elem, para_expr-Unary, para_expr-Binary, para_stmt-Assign, para_stmt-AddTo, para_stmt-Declare, para_stmt-SetLocal, para_stmt-If, para_stmt-For, para_stmt-Block, para_loop, fold_expr-Literal, fold_expr-Iter, fold_expr-Local, fold_expr-Elem, fold_expr-Unary, fold_expr-Binary, fold_stmt-Assign, fold_stmt-AddTo, fold_stmt-Declare, fold_stmt-SetLocal, fold_stmt-If, fold_stmt-For, fold_stmt-Block, fold_loop)

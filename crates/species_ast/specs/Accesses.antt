@@ -1,6 +1,8 @@
 -- What a piece of program does to the arrays, one access after another, as a tree that branches at what each read gives:
 -- its run over given arrays, the accesses of that run, and its actions for given answers.
 use Rattle.std.specs.Prelude.{ℕ, zero, suc, List, [], ◌∷◌, ℤ, pos, ◌+ℤ◌, Bool, ◌&&◌, nat_eq, Option, slice_get, option_and_then, unwrap_or}
+use Rattle.species_ast.specs.declared.action.Action.{Action}
+use Rattle.species_ast.specs.declared.action.Action.TheVariants as action
 use Rattle.species_ast.specs.declared.tree.Value.{Value}
 use Rattle.species_ast.specs.declared.tree.Value.TheVariants.{Int}
 use Rattle.species_ast.specs.declared.trap.Trap.{Trap}
@@ -39,6 +41,14 @@ changed m e by = change m e.array (λ row. change row e.at by)
 -- an element's value after an atomic addition: of the element's kind, and equal to the sum modulo 2 ^ w
 abbrev pub added : Value → Value → Value
 added v c = in_kind (kind_of c) (reduced (kind_of c) (number_of c +ℤ number_of v))
+
+-- what an atomic addition does: for each array, an element's new value from the old one and the value that is added
+abbrev pub Joins : Type 0
+Joins = ℕ → Value → Value → Value
+
+-- sums in all arrays
+abbrev pub sums : Joins
+sums a c v = added v c
 
 -- ---- the tree
 
@@ -80,12 +90,17 @@ pub data Outcome (X : Type 0) : Type 0 where
   Ended : X → Cells → Outcome X
   Stopped : Cause → ℕ → Outcome X
 
-abbrev pub run : {X : Type 0} → Tree X → Cells → Outcome X
-run (Ret x) m = Ended x m
-run (Stop s why) m = Stopped why s.place
-run (Read s e more) m = run (more (cell m e)) m
-run (Write s e v more) m = run more (changed m e (λ c. v))
-run (Add s e v more) m = run more (changed m e (added v))
+abbrev pub run : {X : Type 0} → Joins → Tree X → Cells → Outcome X
+run join (Ret x) m = Ended x m
+run join (Stop s why) m = Stopped why s.place
+run join (Read s e more) m = run join (more (cell m e)) m
+run join (Write s e v more) m = run join more (changed m e (λ c. v))
+run join (Add s e v more) m = run join more (changed m e (λ c. join e.array c v))
+
+-- the run comes to its end
+abbrev pub IsDefined : {X : Type 0} → Outcome X → Type 0
+IsDefined (Ended x m) = Unit {0}
+IsDefined (Stopped why place) = ⊥
 
 pub data Direction : Type 0 where
   Reads : Direction
@@ -103,36 +118,39 @@ abbrev pub access : Site → Direction → Element → Value → Access
 access s d e v = record { site = s; direction = d; element = e; value = v }
 
 -- the accesses of a run in order, to its end or to where it is undefined
-abbrev pub accesses : {X : Type 0} → Tree X → Cells → List Access
-accesses (Ret x) m = []
-accesses (Stop s why) m = []
-accesses (Read s e more) m = access s Reads e (cell m e) ∷ accesses (more (cell m e)) m
-accesses (Write s e v more) m = access s Writes e v ∷ accesses more (changed m e (λ c. v))
-accesses (Add s e v more) m = access s Adds e v ∷ accesses more (changed m e (added v))
+abbrev pub accesses : {X : Type 0} → Joins → Tree X → Cells → List Access
+accesses join (Ret x) m = []
+accesses join (Stop s why) m = []
+accesses join (Read s e more) m = access s Reads e (cell m e) ∷ accesses join (more (cell m e)) m
+accesses join (Write s e v more) m = access s Writes e v ∷ accesses join more (changed m e (λ c. v))
+accesses join (Add s e v more) m = access s Adds e v ∷ accesses join more (changed m e (λ c. join e.array c v))
 
 -- ---- the actions
 
-pub data Action : Type 0 where
-  ReadOf : Element → Action
-  WriteOf : Element → Value → Action
-  AddOf : Element → Value → Action
-  Done : Action
-  Fault : Action
+-- an action on an element
+abbrev pub read_of : Element → Action
+read_of e = action.Read e.array e.at
+
+abbrev pub write_of : Element → Value → Action
+write_of e v = action.Write e.array e.at v
+
+abbrev pub add_of : Element → Value → Action
+add_of e v = action.Add e.array e.at v
 
 -- the actions where the reads are answered in order: to the first read that has no answer left, to the end, or to a fault
 abbrev pub acts : {X : Type 0} → Tree X → List Value → List Action
-acts (Ret x) answers = Done ∷ []
-acts (Stop s why) answers = Fault ∷ []
-acts (Read s e more) [] = ReadOf e ∷ []
-acts (Read s e more) (v ∷ answers) = ReadOf e ∷ acts (more v) answers
-acts (Write s e v more) answers = WriteOf e v ∷ acts more answers
-acts (Add s e v more) answers = AddOf e v ∷ acts more answers
+acts (Ret x) answers = action.Done ∷ []
+acts (Stop s why) answers = action.Fault ∷ []
+acts (Read s e more) [] = read_of e ∷ []
+acts (Read s e more) (v ∷ answers) = read_of e ∷ acts (more v) answers
+acts (Write s e v more) answers = write_of e v ∷ acts more answers
+acts (Add s e v more) answers = add_of e v ∷ acts more answers
 
 -- an access as an action
 abbrev pub action_in : Direction → Element → Value → Action
-action_in Reads e v = ReadOf e
-action_in Writes e v = WriteOf e v
-action_in Adds e v = AddOf e v
+action_in Reads e v = read_of e
+action_in Writes e v = write_of e v
+action_in Adds e v = add_of e v
 
 abbrev pub action_of : Access → Action
 action_of a = action_in a.direction a.element a.value
@@ -149,5 +167,5 @@ answers_in (a ∷ rest) = answer_of a.direction a.value (answers_in rest)
 
 -- the last action of a piece of program whose run has this outcome
 abbrev pub last_action : {X : Type 0} → Outcome X → Action
-last_action (Ended x m) = Done
-last_action (Stopped why place) = Fault
+last_action (Ended x m) = action.Done
+last_action (Stopped why place) = action.Fault

@@ -22,12 +22,12 @@ pub record Frame : Type 0 where
   pub iters : List ℤ
   pub locals : List (Option Value)
 
--- the declarations; and which locals may be set, and to arrays of which kind may be added atomically
+-- the declarations; and which locals may be set, and to which arrays may be added atomically, by number and kind
 pub record Context : Type 0 where
   pub arrays : List Array
   pub locals : List LocalInfo
   pub may_set : ℕ → Bool
-  pub may_add : Kind → Bool
+  pub may_add : ℕ → Kind → Bool
 
 -- a statement: where it stands, as a Site says it, and its place
 pub record Spot : Type 0 where

@@ -1,6 +1,7 @@
 pub mod Accesses
 pub mod Evaluation
 pub mod Grammar
+pub mod Limits
 pub mod Line
 pub mod Marks
 pub mod Names
@@ -8,6 +9,7 @@ pub mod Operators
 pub mod Reading
 pub mod Run
 pub mod Scope
+pub mod Signs
 pub mod Spelling
 pub mod Strip
 pub mod Text

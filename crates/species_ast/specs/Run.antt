@@ -2,6 +2,7 @@
 -- the text (C17 6.8). Parallel marks and species lines mean nothing here.
 use Rattle.std.specs.Prelude.{◌≡◌, replicate, All, ℕ, zero, suc, ◌+◌, ◌/◌, List, [], ◌∷◌, ◌++◌, map, flat_map, length, Bool, true, false, not, nat_eq, if◌then◌else◌, ℤ, pos, ◌+ℤ◌, ◌-ℤ◌, neg_ℤ, Option, Some, None}
 use Rattle.std.specs.List.{list_any}
+use Rattle.species_ast.specs.declared.action.Action.{Action}
 use Rattle.species_ast.specs.declared.tree.Kind.{Kind}
 use Rattle.species_ast.specs.declared.tree.Kind.TheVariants as kind
 use Rattle.species_ast.specs.declared.tree.Value.{Value}
@@ -15,8 +16,9 @@ use Rattle.species_ast.specs.declared.tree.Stmt.TheOpen.{Stmt-F, Loop-F}
 use Rattle.species_ast.specs.declared.tree.Array.{Array}
 use Rattle.species_ast.specs.declared.tree.Unit.{Unit}
 use Rattle.species_ast.specs.Operators.{kind_of, in_kind, IsValue, number_of, is_signed, reduced, converted, is_true, binary_of}
-use Rattle.species_ast.specs.Accesses.{Cells, Forbidden, Tree, Ret, Stop, Read, Write, Add, then_do, Outcome, run, Access, accesses, Action, acts}
-use Rattle.species_ast.specs.Evaluation.{product, Frame, Context, Spot, array_kind, local_kind, local_of, with_local, site_at, answered, element_at, Sense, elements_in, target_of, sense}
+use Rattle.species_ast.specs.Accesses.{Cells, Joins, sums, Forbidden, Tree, Ret, Stop, Read, Write, Add, then_do, Outcome, IsDefined, run, Access, accesses, acts}
+use Rattle.species_ast.specs.Strip.{source_of}
+use Rattle.species_ast.specs.Evaluation.{product, Frame, Context, Spot, array_kind, local_kind, with_local, site_at, answered, element_at, Sense, elements_in, target_of, sense}
 
 -- ---- statements
 
@@ -37,15 +39,14 @@ list_of (s ∷ ss) at k f = then_do (s.does (at ++ k ∷ []) f) (list_of ss at (
 abbrev pub declared_in : List Step → List ℕ
 declared_in ss = flat_map (λ s. s.declares) ss
 
--- the frame g, with these locals as they are in f
-abbrev pub restored : List ℕ → Frame → Frame → Frame
-restored [] f g = g
-restored (x ∷ xs) f g = restored xs f (with_local g x (local_of f x))
+-- the frame, where these locals have no value
+abbrev pub cleared : List ℕ → Frame → Frame
+cleared [] f = f
+cleared (x ∷ xs) f = cleared xs (with_local f x None)
 
--- a list that is a scope: at its end the locals that it declares are as they were before it (C17 6.2.1, 6.2.4); no program
--- that uses its locals in their scopes sees this, and a turn that sets no local of the outside leaves the frame as it was
+-- a list that is a scope: at its end the locals that it declares have no value (C17 6.2.1, 6.2.4)
 abbrev pub scope_of : List Step → List ℕ → ℕ → Frame → Tree Frame
-scope_of ss at k f = then_do (list_of ss at k f) (λ g. Ret (restored (declared_in ss) f g))
+scope_of ss at k f = then_do (list_of ss at k f) (λ g. Ret (cleared (declared_in ss) g))
 
 -- inside a turn of a loop, and after it
 abbrev pub inside : Frame → ℤ → Frame
@@ -115,7 +116,7 @@ addition w a false n value s is f =
     Write (site_at s n f is) (element_at w a is) (converted (array_kind w a) sum) (Ret f))))
 addition w a true n value s is f =
     then_do (value.does s (suc n) f) (λ v.
-    if w.may_add (array_kind w a) then Add (site_at s n f is) (element_at w a is) (converted (array_kind w a) v) (Ret f) else Stop (site_at s n f is) Forbidden)
+    if w.may_add a (array_kind w a) then Add (site_at s n f is) (element_at w a is) (converted (array_kind w a) v) (Ret f) else Stop (site_at s n f is) Forbidden)
 
 abbrev pub adding : Context → ℕ → Bool → List Sense → Sense → Spot → Frame → Tree Frame
 adding w a atomic subs value s f = then_do (target_of w a subs s 0 f) (λ is. addition w a atomic (elements_in subs) value s is f)
@@ -169,15 +170,16 @@ does_scope w ss = scope_of (map (step w) ss)
 
 -- ---- the source's run
 
-abbrev pub source_of : Unit → Context
-source_of u = record { arrays = u.arrays; locals = u.locals; may_set = λ x. true; may_add = λ k. true }
+-- in a unit's own run all is allowed
+abbrev pub source_context : Unit → Context
+source_context u = record { arrays = u.arrays; locals = u.locals; may_set = λ x. true; may_add = λ a k. true }
 
 abbrev pub first_frame : Unit → Frame
 first_frame u = record { iters = []; locals = map (λ l. None) u.locals }
 
 -- what a program does
 abbrev pub program_of : Unit → Tree Frame
-program_of u = does_list (source_of u) u.body [] 0 (first_frame u)
+program_of u = does_list (source_context u) u.body [] 0 (first_frame u)
 
 -- the arrays of these declarations with all elements 0, as those that the data does not name begin
 abbrev pub zeros_of : List Array → Cells
@@ -190,12 +192,16 @@ AreArraysOf [] (row ∷ rows) = ⊥
 AreArraysOf (a ∷ arrays) [] = ⊥
 AreArraysOf (a ∷ arrays) (row ∷ rows) = (length row ≡ product a.dims) × All (λ v. (kind_of v ≡ a.kind) × IsValue v) row × AreArraysOf arrays rows
 
--- the run of a program from given arrays, and its accesses
-abbrev pub source_run : Unit → Cells → Outcome Frame
-source_run u m = run (program_of u) m
+-- The run of a program from given arrays, and its accesses. Of a unit without atomic additions it is the same for all joins.
+abbrev pub source_run : Joins → Unit → Cells → Outcome Frame
+source_run join u m = run join (program_of u) m
 
-abbrev pub source_accesses : Unit → Cells → List Access
-source_accesses u m = accesses (program_of u) m
+abbrev pub source_accesses : Joins → Unit → Cells → List Access
+source_accesses join u m = accesses join (program_of u) m
+
+-- from these arrays the run of a unit's source comes to its end
+abbrev pub HasDefinedSource : Unit → Cells → Type 0
+HasDefinedSource u m = IsDefined (source_run sums (source_of u) m)
 
 -- ---- one iteration of a nest
 
@@ -213,14 +219,22 @@ locals_of = fold-Stmt (List ℕ) (List ℕ) locals_at (λ l. flat_map (λ xs. xs
 abbrev pub locals_in : List Stmt → List ℕ
 locals_in ss = flat_map (λ xs. xs) (map locals_of ss)
 
--- an iteration sets only locals that its body declares, and adds atomically only to arrays of unsigned kind
-abbrev pub iteration_in : Context → List Stmt → Context
-iteration_in w body = record w { may_set = λ x. list_any (nat_eq x) (locals_in body); may_add = λ k. not (is_signed k) }
+-- which joins there are: whether an array of this kind may be added to atomically
+abbrev pub Takes : Type 0
+Takes = ℕ → Kind → Bool
+
+-- sums are of unsigned kinds
+abbrev pub sums_take : Takes
+sums_take a k = not (is_signed k)
+
+-- an iteration sets only locals that its body declares, and adds atomically only to arrays that take it
+abbrev pub iteration_in : Takes → Context → List Stmt → Context
+iteration_in takes w body = record w { may_set = λ x. list_any (nat_eq x) (locals_in body); may_add = takes }
 
 -- what an iteration does whose body stands at this position
-abbrev pub iteration : Context → List Stmt → List ℕ → Frame → Tree Frame
-iteration w body at f = does_scope (iteration_in w body) body at 0 f
+abbrev pub iteration : Takes → Context → List Stmt → List ℕ → Frame → Tree Frame
+iteration takes w body at f = does_scope (iteration_in takes w body) body at 0 f
 
 -- the actions of an iteration whose reads are answered in order by the answers
-abbrev pub actions : Context → List Stmt → Frame → List Value → List Action
-actions w body f answers = acts (iteration w body [] f) answers
+abbrev pub actions : Takes → Context → List Stmt → Frame → List Value → List Action
+actions takes w body f answers = acts (iteration takes w body [] f) answers

@@ -2,8 +2,12 @@
 --     Forms           affine forms of expressions
 --     Meanings        what names mean where they stand
 --     Expressions     what an expression becomes, and the names in it
---     Limits          the limits of programs
+--     Hulls           the ranges of loops, and the limit on their ends
+--     Magnitudes      how large the parts of a bound may get
+--     Limits          the other limits of programs
 --     Nests           perfectly nested loops, and the marks on them
+--     Loops           the loops of a unit, each where it stands
+--     References      the references to arrays in a nest, in order of evaluation
 --     Statements      what a statement becomes, and what is noted on the way
 --     Programs        what a whole program becomes
 --     Refusals        the refusals, and which of several is reported
@@ -11,14 +15,18 @@
 --     Written         what holds of each tree that is read
 --     WellMade        the units that passes take and give
 --     Law             the reported refusal is the first
--- Not here: what Hull, Bound and References say (with ranges and references); when two units differ in places alone (with the
--- printed text); that a lawful program becomes a well made unit (with the code that resolves names); the refusals of the text
--- and the grammar, which come before these, and those of species lines and of data, which come after.
+-- Not here: when two units differ in places alone (with the printed text); that a lawful program becomes a well made unit (with
+-- the code that resolves names); the refusals of the text and the grammar, which come before these, and those of species lines
+-- and of data, which come after.
 pub mod Forms
 pub mod Meanings
 pub mod Expressions
+pub mod Hulls
+pub mod Magnitudes
 pub mod Limits
 pub mod Nests
+pub mod Loops
+pub mod References
 pub mod Statements
 pub mod Programs
 pub mod Refusals

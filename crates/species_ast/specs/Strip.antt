@@ -24,3 +24,7 @@ strip_loop keep_lines = fold-Loop Stmt Loop strip_step (strip_layer keep_lines)
 -- the unit with plain marks and no atomic addition, and without species lines unless they are kept
 abbrev pub strip_of : Bool → Unit → Unit
 strip_of keep_lines u = record u { body = map (strip_stmt keep_lines) u.body }
+
+-- the source of a unit: the unit without parallel marks, atomic marks and species lines
+abbrev pub source_of : Unit → Unit
+source_of u = strip_of false u

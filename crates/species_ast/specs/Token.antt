@@ -4,7 +4,8 @@ use Rattle.species_ast.specs.declared.token.TokenKind.{TokenKind}
 
 -- The place is the byte offset of the token's first byte, for a directive that of its `#`. The text
 -- is the token's own bytes; of a `#define` the name, of an `#include` the header with its brackets
--- or quotes, and of a species line the text after the word without the blanks at its ends.
+-- or quotes, of a species line the text after the word without the blanks and comments at its ends,
+-- and of a pragma of OpenMP the whole line from its `#` on, without the line feed.
 pub record Token : Type 0 where
   pub place : ℕ
   pub text : List ℕ

@@ -73,7 +73,8 @@ pub struct RawStmt<'a> {
     pub what: RawWhat<'a>,
 }
 
-/// What a statement does. Only a block has a `Declare` in it.
+/// What a statement does. Only a block has a `Declare` in it. What is large stands behind `Boxed`, so
+/// that a long list of small statements takes little memory.
 #[cycle(raw_stmt)]
 #[derive(Drop)]
 pub enum RawWhat<'a> {
@@ -84,16 +85,16 @@ pub enum RawWhat<'a> {
     Block(Items<RawStmt<'a>>),
     Empty,
     If {
-        test: RawExpr<'a>,
+        test: Boxed<RawExpr<'a>>,
         body: Boxed<RawStmt<'a>>,
         otherwise: Option<Boxed<RawStmt<'a>>>,
     },
-    Loop(RawLoop<'a>),
-    Change(RawChange<'a>),
+    Loop(Boxed<RawLoop<'a>>),
+    Change(Boxed<RawChange<'a>>),
     /// An addition under a pragma that makes it atomic.
     Atomic {
-        target: RawTarget<'a>,
-        value: RawExpr<'a>,
+        target: Boxed<RawTarget<'a>>,
+        value: Boxed<RawExpr<'a>>,
     },
 }
 

@@ -100,8 +100,8 @@ abbrev pub IsInSet : FirstReference → ℤ → ℤ → Type 0
 IsInSet r v place = ((v +ℤ r.offset) ≤ℤ place) × (place ≤ℤ (v +ℤ r.offset))
 
 -- A line is true of an access with the one subscript s: it has the access's array and direction, and
--- at every value v that the iterator takes the access's place is v plus the offset, it is the one
--- place of the printed set, and it lies in the printed domain.
+-- at every value v that the iterator takes the access's place is v plus the offset, the set that is
+-- printed for v is this place alone, and the domain that is printed has it.
 pub record IsTrueLine (head : Loop) (r : FirstReference) (a : Access) : Type 0 where
   pub array : r.array ≡ a.element.array
   pub direction : r.dir ≡ a.dir

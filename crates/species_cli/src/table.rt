@@ -13,7 +13,7 @@ use species_ast::{Array, Expr, Loop, OutOfMemory, Stmt, Unit, Value};
 use species_reference::{Dir, FirstReference, first_references};
 use std::alloc::Global;
 
-/// For each loop that stands in no other loop a line with its place and one for each reference.
+/// Of each outermost loop a line with its place, and behind it one for each reference.
 pub(crate) fn table(alloc: Global, unit: &Unit) -> Result<Vec<u8>, OutOfMemory>
     requires { (p : OneLoop) × HasLawfulNumbers p × (unit.now ≡ unit_of p) }
     ensures { IfOk result (λ text. text.items ≡ table_of unit.now) }

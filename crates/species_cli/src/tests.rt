@@ -1,3 +1,5 @@
+//! Whole calls of the program: bytes in, bytes out, and the status.
+
 use super::*;
 use species_ast::OutOfMemory;
 use species_io::{MemSink, MemSource};

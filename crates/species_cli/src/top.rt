@@ -48,7 +48,7 @@ fn say<N: Sink>(notes: &mut N, line: &[u8], status: u8) -> u8
 /// | 2 | the words ask for no command |
 /// | 4 | a read failed |
 /// | 5 | a write failed |
-/// | 6 | there was not enough memory |
+/// | 6 | memory ran out, of which no clause says when |
 ///
 /// The answer is built whole before the first byte of it is written.
 pub fn species<S: Source, K: Sink, N: Sink>(

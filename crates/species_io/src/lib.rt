@@ -5,6 +5,7 @@
 #![tactic(auto)]
 
 mod memory;
+mod piecewise;
 mod sink;
 mod source;
 mod standard;
@@ -13,7 +14,8 @@ mod tests;
 mod whole;
 
 pub use memory::{MemSink, MemSource};
+pub use piecewise::Piecewise;
 pub use sink::Sink;
 pub use source::{Failed, Source};
 pub use standard::{StdSink, StdSource};
-pub use whole::{ReadAnswer, read_whole, write_all};
+pub use whole::{ReadAnswer, read_each, read_whole, write_all};

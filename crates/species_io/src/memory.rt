@@ -1,3 +1,5 @@
+//! A source and a sink in memory. They tell their bytes, and fail at the calls that are listed.
+
 ghost use Rattle.std.specs.Prelude.{◌≡◌, ◌≤◌, ◌<◌, ◌↔◌, ◌++◌, ℕ, List, [], Some, length, take, drop, Contains, IfOk, IsErr, OnErr};
 ghost use Rattle.species_io.specs.Told.{Rose, before, then_bytes, AtEnd, next_number};
 ghost use Rattle.species_io.specs.Memory.{given_count, taken_count, FailsAt};
@@ -55,7 +57,7 @@ impl Source for MemSource {
 
     ghost left = { λ s. Some s.bytes };
 
-    /// Each call past number 2^64 - 1 has that number.
+    /// Numbers of calls end at 2^64 - 1, which all calls behind that one share.
     fn read(&mut self, buf: &mut [u8]) -> Result<usize, Failed>
         ensures within { IfOk result (λ n. n ≤ length buf.old) }
         ensures took { IfOk result (λ n. Some self.old.bytes ≡ before (take n buf.new) (Some self.new.bytes)) }
@@ -145,7 +147,7 @@ impl Sink for MemSink {
 
     ghost taken = { λ s. Some s.bytes };
 
-    /// Takes no memory. Each call past number 2^64 - 1 has that number.
+    /// Takes no memory. Numbers of calls end at 2^64 - 1, which all calls behind that one share.
     fn write(&mut self, piece: &[u8]) -> Result<usize, Failed>
         ensures within { IfOk result (λ n. n ≤ length piece.now) }
         ensures some { IfOk result (λ n. 0 < length piece.now → 0 < n) }

@@ -1,3 +1,5 @@
+//! Where bytes go, and what a write promises.
+
 ghost use Rattle.std.specs.Prelude.{◌≡◌, ◌≤◌, ◌<◌, ℕ, List, Option, length, take, IfOk, OnErr};
 ghost use Rattle.species_io.specs.Told.{Rose, then_bytes};
 

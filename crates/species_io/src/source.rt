@@ -1,3 +1,5 @@
+//! Where bytes come from, and what a read promises.
+
 ghost use Rattle.std.specs.Prelude.{◌≡◌, ◌≤◌, ◌<◌, ℕ, List, Option, length, take, IfOk, OnErr};
 ghost use Rattle.species_io.specs.Told.{Rose, before, AtEnd};
 

@@ -1,3 +1,5 @@
+//! Inputs and outputs that end, fail, or fall short.
+
 use super::*;
 use species_ast::OutOfMemory;
 use std::alloc::Global;
@@ -39,6 +41,58 @@ fn reads_to_the_end_or_says_why_not(rt: HostRuntime) {
             }
             Err(answer) => assert!(rt; want == Err(answer), "{piece} {limit}"),
         }
+    }
+}
+
+/// Keeps the bytes, and refuses what comes after so many pieces.
+#[derive(Drop)]
+struct Kept {
+    bytes: Vec<u8>,
+    pieces: usize,
+    room: usize,
+}
+
+impl Piecewise for Kept {
+    ghost use Rattle.std.specs.Prelude.{◌≡◌};
+
+    ghost Means = { λ k bytes. k.bytes.items ≡ bytes };
+
+    ghost room = { λ k. k.room };
+
+    fn take(&mut self, piece: &[u8]) -> Result<(), OutOfMemory> {
+        if self.pieces == 0 {
+            return Err(OutOfMemory);
+        }
+        self.bytes.extend_from_slice(piece)?;
+        self.pieces -= 1;
+        self.room -= piece.len();
+        Ok(())
+    }
+}
+
+#[test]
+fn hands_on_each_piece(rt: HostRuntime) {
+    let cases: [(usize, &[u64], u32, usize, Result<(), ReadAnswer>, &[u8]); 8] = [
+        (5, &[], 12, 3, Ok(()), GREETING),
+        (1, &[], 12, 12, Ok(()), GREETING),
+        (12, &[], 4_194_304, 1, Ok(()), GREETING),
+        (5, &[3], 12, 3, Err(ReadAnswer::ReadFault), GREETING),
+        (5, &[1], 12, 3, Err(ReadAnswer::ReadFault), b"hello"),
+        (5, &[], 11, 3, Err(ReadAnswer::TooLong), b"hello, wor"),
+        (1, &[], 0, 3, Err(ReadAnswer::TooLong), b""),
+        (5, &[], 12, 2, Err(ReadAnswer::Memory), b"hello, wor"),
+    ];
+    let alloc = rt.alloc();
+    for (piece, fails, limit, pieces, want, handed) in cases {
+        let mut input = source(alloc, piece, fails).expect(&rt, "memory");
+        let mut kept = Kept {
+            bytes: Vec::new(alloc),
+            pieces,
+            room: 4_194_304,
+        };
+        let answer = read_each(&mut input, limit, &mut kept);
+        assert!(rt; answer == want || answer == Err(ReadAnswer::Memory), "{piece} {limit}");
+        assert!(rt; kept.bytes.as_slice() == handed, "{piece} {limit}");
     }
 }
 

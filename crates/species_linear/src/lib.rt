@@ -1,8 +1,8 @@
 //! Affine forms over iterators, and their least and greatest value over a box of loop ranges.
 //!
-//! A form is a constant plus whole coefficients of iterators, and an iterator is named by its level:
-//! 0 for the outermost loop around, then 1, and so on. Laws of forms for the crates above (linearity,
-//! separate parts, levels that a form does not name) stand in `proofs/`.
+//! A form adds integer multiples of iterators to a constant. Iterators go by the level of their loop,
+//! which is 0 for the outermost one and 1 more for each loop inside. Laws of forms for the crates above
+//! (linearity, separate parts, levels that a form does not name) stand in `proofs/`.
 #![tactic(auto)]
 
 mod corners;

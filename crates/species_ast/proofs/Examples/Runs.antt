@@ -12,10 +12,11 @@ use Rattle.species_ast.specs.declared.tree.Expr.TheVariants as e
 use Rattle.species_ast.specs.declared.tree.Stmt.{Stmt}
 use Rattle.species_ast.specs.declared.tree.Stmt.TheVariants as s
 use Rattle.species_ast.specs.declared.tree.Loop.{roll-Loop}
+use Rattle.species_ast.specs.declared.action.Action.TheVariants as action
 use Rattle.species_ast.specs.declared.trap.Trap.TheVariants as trap
-use Rattle.species_ast.specs.Accesses.{Cells, Direction, Reads, Writes, Adds, Tree, Ret, Trapped, Outcome, Ended, Stopped, run, Access, accesses, ReadOf, WriteOf, AddOf, Done, Fault}
+use Rattle.species_ast.specs.Accesses.{sums, Cells, Direction, Reads, Writes, Adds, Tree, Ret, Trapped, Outcome, Ended, Stopped, run, Access, accesses}
 use Rattle.species_ast.specs.Evaluation.{Context, Frame, Sense, sense}
-use Rattle.species_ast.specs.Run.{does_list, actions}
+use Rattle.species_ast.specs.Run.{does_list, sums_take, actions}
 use Rattle.species_ast.proofs.RunLaws.{folds, locals}
 
 -- ---- a program's declarations: int A[4], B[2][3]; unsigned u[2]; and the locals int x; unsigned y;
@@ -28,7 +29,7 @@ names = record {
       record { name = []; kind = kind.Unsigned; dims = 2 ∷ [] } ∷ [];
   locals = record { name = []; kind = kind.Int } ∷ record { name = []; kind = kind.Unsigned } ∷ [];
   may_set = λ x. true;
-  may_add = λ k. true;
+  may_add = λ a k. true;
 }
 
 abbrev no_values : Frame
@@ -80,7 +81,7 @@ abbrev program : Context → List Stmt → Tree Frame
 program w ss = does_list w ss [] 0 no_values
 
 abbrev ran : Context → List Stmt → Cells → Outcome Frame
-ran w ss m = run (program w ss) m
+ran w ss m = run sums (program w ss) m
 
 -- what the examples show of an access: direction, array, place in row order, value
 abbrev Brief : Type 0
@@ -90,7 +91,7 @@ abbrev brief : Access → Brief
 brief a = (a.direction, a.element.array, a.element.at, a.value)
 
 abbrev accesses_of : Context → List Stmt → Cells → List Brief
-accesses_of w ss m = map brief (accesses (program w ss) m)
+accesses_of w ss m = map brief (accesses sums (program w ss) m)
 
 -- Each program stands under a context w with these names, so that its equations are found before it computes.
 
@@ -107,10 +108,10 @@ or_decided : (w : Context) → at_7 (sense w (e.Or (lit 3) one_by_zero)) ≡ Ret
 or_decided w = simp folds refl
 
 -- `3 && 1 / 0` and `0 || 1 / 0` do
-and_open : (w : Context) → run (at_7 (sense w (e.And (lit 3) one_by_zero))) zeros ≡ Stopped (Trapped trap.DivZero) 7
+and_open : (w : Context) → run sums (at_7 (sense w (e.And (lit 3) one_by_zero))) zeros ≡ Stopped (Trapped trap.DivZero) 7
 and_open w = simp folds refl
 
-or_open : (w : Context) → run (at_7 (sense w (e.Or (lit 0) one_by_zero))) zeros ≡ Stopped (Trapped trap.DivZero) 7
+or_open : (w : Context) → run sums (at_7 (sense w (e.Or (lit 0) one_by_zero))) zeros ≡ Stopped (Trapped trap.DivZero) 7
 or_open w = simp folds refl
 
 -- `3 && 4` and `0 || 4` are 1
@@ -140,27 +141,27 @@ cast_less : (w : Context) → at_7 (sense w (e.Binary op.Lt (e.Literal (minus 1)
 cast_less w = simp folds refl
 
 -- A[4] is past A's size, and A[-1] before it
-past_size : (w : Context) → w ≡ names → run (at_7 (sense w (element_A (lit 4)))) zeros ≡ Stopped (Trapped trap.Index) 7
+past_size : (w : Context) → w ≡ names → run sums (at_7 (sense w (element_A (lit 4)))) zeros ≡ Stopped (Trapped trap.Index) 7
 past_size w same = simp folds (rw same refl)
 
-before_zero : (w : Context) → w ≡ names → run (at_7 (sense w (element_A (e.Literal (minus 1))))) zeros ≡ Stopped (Trapped trap.Index) 7
+before_zero : (w : Context) → w ≡ names → run sums (at_7 (sense w (element_A (e.Literal (minus 1))))) zeros ≡ Stopped (Trapped trap.Index) 7
 before_zero w same = simp folds (rw same refl)
 
 -- B[1][2] is the last element of B; B[0][3] is past a row, though not past the array
 last_of_rows : (w : Context) → w ≡ names
-    → map brief (accesses (at_7 (sense w (e.Elem 1 (lit 1 ∷ lit 2 ∷ [])))) zeros) ≡ (Reads, 1, 5, int 0) ∷ []
+    → map brief (accesses sums (at_7 (sense w (e.Elem 1 (lit 1 ∷ lit 2 ∷ [])))) zeros) ≡ (Reads, 1, 5, int 0) ∷ []
 last_of_rows w same = simp folds (rw same refl)
 
-past_row : (w : Context) → w ≡ names → run (at_7 (sense w (e.Elem 1 (lit 0 ∷ lit 3 ∷ [])))) zeros ≡ Stopped (Trapped trap.Index) 7
+past_row : (w : Context) → w ≡ names → run sums (at_7 (sense w (e.Elem 1 (lit 0 ∷ lit 3 ∷ [])))) zeros ≡ Stopped (Trapped trap.Index) 7
 past_row w same = simp folds (rw same refl)
 
 -- B[5][A[2]] reads A[2] before any test, and B[5][1 / 0] is a division by 0
 all_before_test : (w : Context) → w ≡ names
-    → map brief (accesses (at_7 (sense w (e.Elem 1 (lit 5 ∷ element_A (lit 2) ∷ [])))) zeros) ≡ (Reads, 0, 2, int 0) ∷ []
+    → map brief (accesses sums (at_7 (sense w (e.Elem 1 (lit 5 ∷ element_A (lit 2) ∷ [])))) zeros) ≡ (Reads, 0, 2, int 0) ∷ []
 all_before_test w same = simp folds (rw same refl)
 
 test_after_all : (w : Context)
-    → run (at_7 (sense w (e.Elem 1 (lit 5 ∷ one_by_zero ∷ [])))) zeros ≡ Stopped (Trapped trap.DivZero) 7
+    → run sums (at_7 (sense w (e.Elem 1 (lit 5 ∷ one_by_zero ∷ [])))) zeros ≡ Stopped (Trapped trap.DivZero) 7
 test_after_all w = simp folds refl
 
 -- ---- locals
@@ -241,7 +242,7 @@ carries_by w same = simp folds (rw same refl)
 
 -- the sites of the first turn: the read is element 1 of statement 0 of statement 0, the write element 0
 carries_at : (w : Context) → w ≡ names
-    → map (λ a. a.site) (take 2 (accesses (program w (carried_on ∷ [])) zeros))
+    → map (λ a. a.site) (take 2 (accesses sums (program w (carried_on ∷ [])) zeros))
     ≡ record { statement = 0 ∷ 0 ∷ []; place = 40; number = 1; iters = pos 1 ∷ []; indices = 0 ∷ [] }
     ∷ record { statement = 0 ∷ 0 ∷ []; place = 40; number = 0; iters = pos 1 ∷ []; indices = 1 ∷ [] } ∷ []
 carries_at w same = simp folds (rw same refl)
@@ -287,29 +288,29 @@ abbrev shift_up : List Stmt
 shift_up = s.Assign 40 0 (iter ∷ []) (element_A (e.Binary op.Sub iter (lit 1))) ∷ []
 
 unanswered : (w : Context) → w ≡ names
-    → actions w shift_up one_turn [] ≡ ReadOf (record { array = 0; at = 1 }) ∷ []
+    → actions sums_take w shift_up one_turn [] ≡ action.Read 0 1 ∷ []
 unanswered w same = simp folds (rw same refl)
 
 answered_once : (w : Context) → w ≡ names
-    → actions w shift_up one_turn (int 9 ∷ [])
-    ≡ ReadOf (record { array = 0; at = 1 }) ∷ WriteOf (record { array = 0; at = 2 }) (int 9) ∷ Done ∷ []
+    → actions sums_take w shift_up one_turn (int 9 ∷ [])
+    ≡ action.Read 0 1 ∷ action.Write 0 2 (int 9) ∷ action.Done ∷ []
 answered_once w same = simp folds (rw same refl)
 
 -- x = A[0]; where x is declared outside the nest is a fault after the read
 outer_local : (w : Context) → w ≡ names
-    → actions w (s.SetLocal 10 0 (element_A (lit 0)) ∷ []) one_turn (int 9 ∷ []) ≡ ReadOf (record { array = 0; at = 0 }) ∷ Fault ∷ []
+    → actions sums_take w (s.SetLocal 10 0 (element_A (lit 0)) ∷ []) one_turn (int 9 ∷ []) ≡ action.Read 0 0 ∷ action.Fault ∷ []
 outer_local w same = simp folds (rw same (simp locals refl))
 
 -- { int y; y = 3; A[0] = x; } with y inside and x outside
 inner_local : (w : Context) → w ≡ names
-    → actions w (s.Declare 10 1 None ∷ s.SetLocal 20 1 (lit 3) ∷ s.Assign 30 0 (lit 0 ∷ []) (e.Local 0) ∷ []) one_turn []
-    ≡ WriteOf (record { array = 0; at = 0 }) (int 1) ∷ Done ∷ []
+    → actions sums_take w (s.Declare 10 1 None ∷ s.SetLocal 20 1 (lit 3) ∷ s.Assign 30 0 (lit 0 ∷ []) (e.Local 0) ∷ []) one_turn []
+    ≡ action.Write 0 0 (int 1) ∷ action.Done ∷ []
 inner_local w same = simp folds (rw same (simp locals refl))
 
 -- an atomic addition to A is a fault, and one to u is an action
-atomic_to_int : (w : Context) → w ≡ names → actions w (s.AddTo 10 0 (lit 0 ∷ []) (lit 1) true ∷ []) one_turn [] ≡ Fault ∷ []
+atomic_to_int : (w : Context) → w ≡ names → actions sums_take w (s.AddTo 10 0 (lit 0 ∷ []) (lit 1) true ∷ []) one_turn [] ≡ action.Fault ∷ []
 atomic_to_int w same = simp folds (rw same refl)
 
 atomic_to_unsigned : (w : Context) → w ≡ names
-    → actions w (s.AddTo 10 2 (lit 0 ∷ []) (lit 1) true ∷ []) one_turn [] ≡ AddOf (record { array = 2; at = 0 }) (Unsigned 1) ∷ Done ∷ []
+    → actions sums_take w (s.AddTo 10 2 (lit 0 ∷ []) (lit 1) true ∷ []) one_turn [] ≡ action.Add 2 0 (Unsigned 1) ∷ action.Done ∷ []
 atomic_to_unsigned w same = simp folds (rw same refl)

@@ -14,7 +14,7 @@ use Rattle.species_ast.specs.Text.Pragmas.{openmp_of}
 use Rattle.species_ast.specs.Text.Directives.{form_of}
 use Rattle.species_ast.specs.Text.Pieces.{piece_of}
 use Rattle.species_ast.specs.Text.Stream.{TokenStream, stream_of, grammar_tokens}
-use Rattle.species_ast.specs.Text.Load.{first_above}
+use Rattle.species_ast.specs.Text.Load.{no_load, first_above}
 
 abbrev name : ℕ → List ℕ → Token
 name place text = record { place = place; text = text; kind = kind.Name }
@@ -692,7 +692,7 @@ users_file = refl
 
 -- the first token with which the load of a text is above a limit
 abbrev above : ℕ → List ℕ → Option ℕ
-above most text = first_above most (record { load = 0; blocks = []; brackets = 0 }) (grammar_tokens (stream_of text).tokens)
+above most text = first_above most no_load (grammar_tokens (stream_of text).tokens)
 
 load_of_words : above 2 (codes "x y z") ≡ Some 4
 unfolding piece_of literal_of form_of openmp_of punctuators

@@ -5,7 +5,8 @@ use Prim.Native.String.{String}
 use Rattle.species_ast.specs.Token.{Token}
 use Rattle.species_ast.specs.Spelling.{Spelling}
 use Rattle.species_ast.specs.Grammar.Words.{punctuator, keyword, name, number, species, Optional}
-use Rattle.species_ast.specs.Grammar.Expressions.{Expression, Subscripts, TypeSpecifier, Operation, expression, target, conditional_level}
+use Rattle.species_ast.specs.Signs.{conditional_level}
+use Rattle.species_ast.specs.Grammar.Expressions.{Expression, Subscripts, TypeSpecifier, Operation, expression, target}
 use Rattle.species_ast.specs.Grammar.Declarations.{ArrayDeclarator, MoreArrays, GlobalDeclaration, statement}
 use Rattle.species_ast.specs.Grammar.Statements.{Step, ForHeader, SpeciesLine, ParallelLine, Statement, BlockItems, loop}
 use Rattle.species_ast.specs.Grammar.Units.{TranslationUnit, Derives}

@@ -3,7 +3,8 @@ use Rattle.std.specs.Prelude.{ℕ, List, [], ◌∷◌, ◌++◌, Some, None}
 use Rattle.species_ast.specs.Token.{Token}
 use Rattle.species_ast.specs.Spelling.{Spelling}
 use Rattle.species_ast.specs.Grammar.Words.{punctuator, name}
-use Rattle.species_ast.specs.Grammar.Expressions.{TypeSpecifier, Expression, Subscripts, conditional_level}
+use Rattle.species_ast.specs.Signs.{conditional_level}
+use Rattle.species_ast.specs.Grammar.Expressions.{TypeSpecifier, Expression, Subscripts}
 use Rattle.species_ast.specs.declared.tree.Kind.{Kind}
 use Rattle.species_ast.specs.declared.raw.RawExpr.{RawExpr}
 use Rattle.species_ast.specs.declared.raw.RawArray.{RawArray}

@@ -1,16 +1,14 @@
 -- Expressions (C17 6.5): which lists of tokens derive which expression.
 use Rattle.std.specs.Prelude.{ℕ, suc, Bool, List, [], ◌∷◌, ◌++◌}
-use Prim.Native.String.{String}
 use Rattle.species_ast.specs.Token.{Token}
 use Rattle.species_ast.specs.Spelling.{Spelling}
-use Rattle.species_ast.specs.Grammar.Words.{punctuator, keyword, name, number, Optional}
+use Rattle.species_ast.specs.Grammar.Words.{sign, punctuator, keyword, name, number, Optional}
+use Rattle.species_ast.specs.Signs.{conditional_level, or_level, and_level, cast_level, primary_level, binary_level, binary_sign, and_sign, or_sign, raw_unary_sign}
 use Rattle.species_ast.specs.declared.tree.Kind.{Kind}
 use Rattle.species_ast.specs.declared.tree.Kind.TheVariants as kind
 use Rattle.species_ast.specs.declared.tree.Value.{Value}
 use Rattle.species_ast.specs.declared.tree.Binary.{Binary}
-use Rattle.species_ast.specs.declared.tree.Binary.TheVariants as binary
 use Rattle.species_ast.specs.declared.raw.RawUnary.{RawUnary}
-use Rattle.species_ast.specs.declared.raw.RawUnary.TheVariants as unary
 use Rattle.species_ast.specs.declared.raw.RawExpr.{RawExpr, roll-RawExpr, out-RawExpr}
 use Rattle.species_ast.specs.declared.raw.RawTerm.{RawTerm}
 use Rattle.species_ast.specs.declared.raw.RawTerm.TheVariants as term
@@ -40,68 +38,16 @@ pub data Operation : Type 0 where
   logical_and : Operation
   logical_or : Operation
 
--- The levels of C17 6.5, each of which has those with higher numbers among its operands. 6.5.15, where expressions begin:
-abbrev pub conditional_level : ℕ
-conditional_level = 0
-
--- C17 6.5.5
-abbrev pub multiplicative_level : ℕ
-multiplicative_level = 10
-
--- C17 6.5.3 and 6.5.4
-abbrev pub cast_level : ℕ
-cast_level = 11
-
--- C17 6.5.1 and 6.5.2
-abbrev pub primary_level : ℕ
-primary_level = 12
-
--- C17 6.5.5 to 6.5.14
+-- how tightly it binds
 abbrev pub level_of : Operation → ℕ
-level_of (Operation.strict binary.Mul) = multiplicative_level
-level_of (Operation.strict binary.Div) = multiplicative_level
-level_of (Operation.strict binary.Rem) = multiplicative_level
-level_of (Operation.strict binary.Add) = 9
-level_of (Operation.strict binary.Sub) = 9
-level_of (Operation.strict binary.Shl) = 8
-level_of (Operation.strict binary.Shr) = 8
-level_of (Operation.strict binary.Lt) = 7
-level_of (Operation.strict binary.Le) = 7
-level_of (Operation.strict binary.Gt) = 7
-level_of (Operation.strict binary.Ge) = 7
-level_of (Operation.strict binary.Eq) = 6
-level_of (Operation.strict binary.Ne) = 6
-level_of (Operation.strict binary.BitAnd) = 5
-level_of (Operation.strict binary.BitXor) = 4
-level_of (Operation.strict binary.BitOr) = 3
-level_of Operation.logical_and = 2
-level_of Operation.logical_or = 1
+level_of (Operation.strict o) = binary_level o
+level_of Operation.logical_and = and_level
+level_of Operation.logical_or = or_level
 
-abbrev pub binary_sign : Operation → String
-binary_sign (Operation.strict binary.Mul) = "*"
-binary_sign (Operation.strict binary.Div) = "/"
-binary_sign (Operation.strict binary.Rem) = "%"
-binary_sign (Operation.strict binary.Add) = "+"
-binary_sign (Operation.strict binary.Sub) = "-"
-binary_sign (Operation.strict binary.Shl) = "<<"
-binary_sign (Operation.strict binary.Shr) = ">>"
-binary_sign (Operation.strict binary.Lt) = "<"
-binary_sign (Operation.strict binary.Le) = "<="
-binary_sign (Operation.strict binary.Gt) = ">"
-binary_sign (Operation.strict binary.Ge) = ">="
-binary_sign (Operation.strict binary.Eq) = "=="
-binary_sign (Operation.strict binary.Ne) = "!="
-binary_sign (Operation.strict binary.BitAnd) = "&"
-binary_sign (Operation.strict binary.BitXor) = "^"
-binary_sign (Operation.strict binary.BitOr) = "|"
-binary_sign Operation.logical_and = "&&"
-binary_sign Operation.logical_or = "||"
-
-abbrev pub unary_sign : RawUnary → String
-unary_sign unary.Neg = "-"
-unary_sign unary.Plus = "+"
-unary_sign unary.Not = "~"
-unary_sign unary.LogNot = "!"
+abbrev pub operation_sign : Operation → List ℕ
+operation_sign (Operation.strict o) = binary_sign o
+operation_sign Operation.logical_and = and_sign
+operation_sign Operation.logical_or = or_sign
 
 -- ---- expressions
 
@@ -127,9 +73,9 @@ mutual
         → Expression conditional_level (expression (place_of c) (term.Cond c x y)) (cs ++ (punctuator p "?" ∷ (xs ++ (punctuator q ":" ∷ ys))))
     -- `x o y`, from left to right
     binary_operation : (p : ℕ) (o : Operation) (x y : RawExpr) (xs ys : List Token) → Expression (level_of o) x xs → Expression (suc (level_of o)) y ys
-        → Expression (level_of o) (expression (place_of x) (operation o x y)) (xs ++ (punctuator p (binary_sign o) ∷ ys))
+        → Expression (level_of o) (expression (place_of x) (operation o x y)) (xs ++ (sign p (operation_sign o) ∷ ys))
     -- `o x`
-    unary_operation : (p : ℕ) (o : RawUnary) (x : RawExpr) (xs : List Token) → Expression cast_level x xs → Expression cast_level (expression p (term.Unary o x)) (punctuator p (unary_sign o) ∷ xs)
+    unary_operation : (p : ℕ) (o : RawUnary) (x : RawExpr) (xs : List Token) → Expression cast_level x xs → Expression cast_level (expression p (term.Unary o x)) (sign p (raw_unary_sign o) ∷ xs)
     -- `(type) x`
     cast : (p q r : ℕ) (k : Kind) (x : RawExpr) (ks xs : List Token) → TypeSpecifier q k ks → Expression cast_level x xs
         → Expression cast_level (expression p (term.Cast k x)) (punctuator p "(" ∷ ((ks ++ punctuator r ")" ∷ []) ++ xs))

@@ -1,16 +1,14 @@
 -- Statements (C17 6.8): which lists of tokens derive which statement.
 use Rattle.std.specs.Prelude.{ℕ, List, [], ◌∷◌, ◌++◌, Option, Some, None, Bool, true, false}
-use Prim.Native.String.{String}
 use Rattle.species_ast.specs.Token.{Token}
 use Rattle.species_ast.specs.Spelling.{Spelling}
-use Rattle.species_ast.specs.Grammar.Words.{punctuator, keyword, name, species, parallel, atomic, Optional}
-use Rattle.species_ast.specs.Grammar.Expressions.{Expression, Target, conditional_level, multiplicative_level}
+use Rattle.species_ast.specs.Grammar.Words.{sign, punctuator, keyword, name, species, parallel, atomic, Optional}
+use Rattle.species_ast.specs.Signs.{conditional_level, multiplicative_level, assignment_sign, test_sign}
+use Rattle.species_ast.specs.Grammar.Expressions.{Expression, Target}
 use Rattle.species_ast.specs.Grammar.Declarations.{LocalDeclaration, statement}
 use Rattle.species_ast.specs.declared.tree.Schedule.{Schedule}
 use Rattle.species_ast.specs.declared.tree.Test.{Test}
-use Rattle.species_ast.specs.declared.tree.Test.TheVariants as test
 use Rattle.species_ast.specs.declared.raw.RawOp.{RawOp}
-use Rattle.species_ast.specs.declared.raw.RawOp.TheVariants as op
 use Rattle.species_ast.specs.declared.raw.RawExpr.{RawExpr}
 use Rattle.species_ast.specs.declared.raw.RawTarget.{RawTarget, out-RawTarget}
 use Rattle.species_ast.specs.declared.raw.RawChange.{RawChange}
@@ -23,19 +21,6 @@ use Rattle.species_ast.specs.declared.raw.RawWhat.TheVariants as what
 
 -- ---- assignments (C17 6.5.16, 6.5.2.4 and 6.5.3.1), which are statements here
 
-abbrev pub assignment_sign : RawOp → String
-assignment_sign op.Plain = "="
-assignment_sign op.Add = "+="
-assignment_sign op.Sub = "-="
-assignment_sign op.Mul = "*="
-assignment_sign op.Div = "/="
-assignment_sign op.Rem = "%="
-assignment_sign op.BitAnd = "&="
-assignment_sign op.BitXor = "^="
-assignment_sign op.BitOr = "|="
-assignment_sign op.Shl = "<<="
-assignment_sign op.Shr = ">>="
-
 abbrev pub target_place : RawTarget → ℕ
 target_place t = (out-RawTarget t).name.place
 
@@ -43,7 +28,7 @@ target_place t = (out-RawTarget t).name.place
 pub data Change : ℕ → RawChange → List Token → Type 0 where
   -- `t = x`, `t += x` and the like
   set : (p : ℕ) (o : RawOp) (t : RawTarget) (x : RawExpr) (ts xs : List Token) → Target t ts → Expression conditional_level x xs
-      → Change (target_place t) (change.Set t o x) (ts ++ (punctuator p (assignment_sign o) ∷ xs))
+      → Change (target_place t) (change.Set t o x) (ts ++ (sign p (assignment_sign o) ∷ xs))
   -- `t++`
   up : (p : ℕ) (t : RawTarget) (ts : List Token) → Target t ts → Change (target_place t) (change.Up t) (ts ++ punctuator p "++" ∷ [])
   -- `t--`
@@ -54,12 +39,6 @@ pub data Change : ℕ → RawChange → List Token → Type 0 where
   down_before : (p : ℕ) (t : RawTarget) (ts : List Token) → Target t ts → Change p (change.DownBefore t) (punctuator p "--" ∷ ts)
 
 -- ---- the header of a loop (C17 6.8.5.3)
-
-abbrev pub test_sign : Test → String
-test_sign test.Lt = "<"
-test_sign test.Le = "<="
-test_sign test.Gt = ">"
-test_sign test.Ge = ">="
 
 pub data Step : RawStep → List Token → Type 0 where
   -- `i++`
@@ -96,7 +75,7 @@ pub data ForHeader : Header → List Token → Type 0 where
   header : (p q r o u w : ℕ) (b : Bool) (i j : Spelling) (c : Test) (x y : RawExpr) (s : RawStep) (bs xs ys ss : List Token)
       → Optional "int" b bs → Expression conditional_level x xs → Expression conditional_level y ys → Step s ss
       → ForHeader (record { typed = b; iter = i; start = x; tested = j; test = c; limit = y; step = s })
-      (punctuator p "(" ∷ (bs ++ (name i ∷ punctuator q "=" ∷ (xs ++ (punctuator r ";" ∷ name j ∷ punctuator o (test_sign c) ∷ (ys ++ (punctuator u ";" ∷ (ss ++ punctuator w ")" ∷ []))))))))
+      (punctuator p "(" ∷ (bs ++ (name i ∷ punctuator q "=" ∷ (xs ++ (punctuator r ";" ∷ name j ∷ sign o (test_sign c) ∷ (ys ++ (punctuator u ";" ∷ (ss ++ punctuator w ")" ∷ []))))))))
 
 -- ---- pragmas before a loop
 

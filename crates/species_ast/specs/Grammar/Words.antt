@@ -7,9 +7,13 @@ use Rattle.species_ast.specs.declared.token.TokenKind.TheVariants as token
 use Rattle.species_ast.specs.declared.tree.Value.{Value}
 use Rattle.species_ast.specs.declared.tree.Schedule.{Schedule}
 
--- a punctuator (C17 6.4.6), as in `punctuator p "("`
+-- the punctuator of these bytes (C17 6.4.6)
+abbrev pub sign : ℕ → List ℕ → Token
+sign p text = record { place = p; text = text; kind = token.Punct }
+
+-- the same of a spelling, as in `punctuator p "("`
 abbrev pub punctuator : ℕ → String → Token
-punctuator p s = record { place = p; text = codes s; kind = token.Punct }
+punctuator p s = sign p (codes s)
 
 -- a keyword (C17 6.4.1)
 abbrev pub keyword : ℕ → String → Token

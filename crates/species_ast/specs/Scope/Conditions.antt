@@ -1,5 +1,5 @@
 -- The conditions under which a program is refused, each with the places where it holds.
-use Rattle.std.specs.Prelude.{◌≡◌, ℕ, Bool, true, false, ◌&&◌, not, nat_lt, nat_le, nat_eq, List, [], ◌∷◌, ◌++◌, flat_map, length, ℤ, unsigned_abs, Option, Some, None, is_some, is_none, Result, Ok, Err}
+use Rattle.std.specs.Prelude.{◌≡◌, ℕ, Bool, true, false, ◌&&◌, not, nat_eq, List, [], ◌∷◌, ◌++◌, flat_map, ℤ, Option, Some, None, is_some, is_none, Result, Ok, Err}
 use Rattle.species_ast.specs.declared.tree.Kind.{Kind}
 use Rattle.species_ast.specs.declared.tree.Kind.TheVariants as kind
 use Rattle.species_ast.specs.declared.tree.Test.{Test}
@@ -9,8 +9,12 @@ use Rattle.species_ast.specs.declared.tree.Unit.{Unit}
 use Rattle.species_ast.specs.declared.raw.RawUnit.{RawUnit}
 use Rattle.species_ast.specs.Scope.Forms.{form_of, iterators_in}
 use Rattle.species_ast.specs.Scope.Meanings.{Meaning, is_among, Role, Declared, Taken, Assigned, Iterates, InHeader, Occurrence}
-use Rattle.species_ast.specs.Scope.Limits.{most_loops, most_dimensions, most_step, most_references, has_lawful_sizes, goes, NestLimits, larger_than}
+use Rattle.species_ast.specs.Scope.Hulls.{passes_hull}
+use Rattle.species_ast.specs.Scope.Magnitudes.{passes_bound}
+use Rattle.species_ast.specs.Scope.Limits.{most_references, has_too_many_dimensions, has_lawful_sizes, goes, is_too_deep, is_too_far}
 use Rattle.species_ast.specs.Scope.Nests.{front_of, is_bad_mark}
+use Rattle.species_ast.specs.Scope.Loops.{PlacedLoop, placed_loops}
+use Rattle.species_ast.specs.Scope.References.{larger_than}
 use Rattle.species_ast.specs.Scope.Programs.{Program, iterators_of, program_of}
 use Rattle.species_ast.specs.Scope.Refusals.{Limit, Refusal, Finding, first_of_groups, refused_at, places_where}
 
@@ -115,60 +119,75 @@ refused_forms p = refused_at Refusal.NotStatic (not_static p) ++ refused_at Refu
 
 -- ---- limits and marks
 
--- LimitPassed(Loops): a loop stands inside eight others
-abbrev pub too_deep : Program → List ℕ
-too_deep p = places_where (λ x. nat_le most_loops x.level) (λ x. x.place) p.loops
-
 -- LimitPassed(Dims): at the array's name
 abbrev pub too_many_dimensions : Program → List ℕ
-too_many_dimensions p = places_where (λ a. nat_lt most_dimensions (length a.array.dims)) (λ a. a.name.place) p.arrays
+too_many_dimensions p = places_where (λ a. has_too_many_dimensions a.array) (λ a. a.name.place) p.arrays
 
 -- LimitPassed(Elements): at the array's name
 abbrev pub too_many_elements : Program → List ℕ
 too_many_elements p = places_where (λ a. not (has_lawful_sizes a.array)) (λ a. a.name.place) p.arrays
 
--- LimitPassed(Step): at the `for`
-abbrev pub too_far : Program → List ℕ
-too_far p = places_where (λ x. nat_lt most_step (unsigned_abs (out-Loop x.loop).step)) (λ x. x.place) p.loops
+-- the `for` of each loop of a unit of which a condition holds
+abbrev pub loops_where : (PlacedLoop → Bool) → Unit → List ℕ
+loops_where holds u = places_where holds (λ x. (out-Loop x.head).place) (placed_loops u)
 
--- BadMark: a parallel mark stands inside a parallel nest or does not fit; at the `for`
-abbrev pub bad_mark : Program → List ℕ
-bad_mark p =
-    places_where (λ x. is_bad_mark x.in_nest x.level (out-Loop x.loop).mark (front_of x.loop)) (λ x. x.place) p.loops
+-- LimitPassed(Loops): a loop stands inside eight others
+abbrev pub too_deep : Unit → List ℕ
+too_deep u = loops_where (λ x. is_too_deep x.stands.around.level) u
 
-abbrev pub refused_limits : NestLimits → Program → List Finding
-refused_limits limits p =
-    refused_at (Refusal.LimitPassed Limit.Loops) (too_deep p)
-    ++ (refused_at (Refusal.LimitPassed Limit.Dims) (too_many_dimensions p)
-    ++ (refused_at (Refusal.LimitPassed Limit.Elements) (too_many_elements p)
-    ++ (refused_at (Refusal.LimitPassed Limit.Hull) (limits.hull p.unit)
-    ++ (refused_at (Refusal.LimitPassed Limit.Step) (too_far p)
-    ++ (refused_at (Refusal.LimitPassed Limit.Bound) (limits.bound p.unit)
-    ++ refused_at Refusal.BadMark (bad_mark p))))))
+-- LimitPassed(Step)
+abbrev pub too_far : Unit → List ℕ
+too_far u = loops_where (λ x. is_too_far (out-Loop x.head).step) u
 
-abbrev pub refused_references : NestLimits → Program → List Finding
-refused_references limits p = refused_at (Refusal.LimitPassed Limit.References) (larger_than most_references limits p.unit)
+-- LimitPassed(Hull) and LimitPassed(Bound): asked of a loop only where no loop around it passes these or Loops
+abbrev pub past_hull : Unit → List ℕ
+past_hull u = loops_where (λ x. not x.stands.passed && passes_hull x.stands.around.path (out-Loop x.head)) u
+
+abbrev pub past_bound : Unit → List ℕ
+past_bound u = loops_where (λ x. not x.stands.passed && passes_bound x.stands.around.path (out-Loop x.head)) u
+
+-- BadMark: a parallel mark stands inside a parallel nest or does not fit
+abbrev pub bad_mark : Unit → List ℕ
+bad_mark u = loops_where (λ x. is_bad_mark x.stands.around.in_nest x.stands.around.level (out-Loop x.head).mark (front_of x.head)) u
+
+-- what is refused of the arrays of a program, and of the loops of its unit
+abbrev pub refused_arrays : Program → List Finding
+refused_arrays p =
+    refused_at (Refusal.LimitPassed Limit.Dims) (too_many_dimensions p) ++ refused_at (Refusal.LimitPassed Limit.Elements) (too_many_elements p)
+
+abbrev pub refused_loops : Unit → List Finding
+refused_loops u =
+    refused_at (Refusal.LimitPassed Limit.Loops) (too_deep u)
+    ++ (refused_at (Refusal.LimitPassed Limit.Hull) (past_hull u)
+    ++ (refused_at (Refusal.LimitPassed Limit.Step) (too_far u)
+    ++ (refused_at (Refusal.LimitPassed Limit.Bound) (past_bound u)
+    ++ refused_at Refusal.BadMark (bad_mark u))))
+
+abbrev pub refused_limits : Program → List Finding
+refused_limits p = refused_arrays p ++ refused_loops p.unit
+
+abbrev pub refused_references : Unit → List Finding
+refused_references u = refused_at (Refusal.LimitPassed Limit.References) (larger_than most_references u)
 
 -- ---- the answer
 
 -- the refusal of a program that is reported: its names are looked at first, then its bounds, sizes and steps, then limits and
 -- marks, and then references
-abbrev pub refusal_of : NestLimits → Program → Option Finding
-refusal_of limits p =
-    first_of_groups (refused_names p ∷ refused_forms p ∷ refused_limits limits p ∷ refused_references limits p ∷ [])
+abbrev pub refusal_of : Program → Option Finding
+refusal_of p = first_of_groups (refused_names p ∷ refused_forms p ∷ refused_limits p ∷ refused_references p.unit ∷ [])
 
 -- Nothing in a program is refused.
-abbrev pub IsLawful : NestLimits → RawUnit → Type 0
-IsLawful limits u = refusal_of limits (program_of u) ≡ None
+abbrev pub IsLawful : RawUnit → Type 0
+IsLawful u = refusal_of (program_of u) ≡ None
 
 abbrev pub unless_refused : Option Finding → Unit → Result Unit Finding
 unless_refused (Some f) u = Err f
 unless_refused None u = Ok u
 
 -- the unit of a program, or the refusal that is reported
-abbrev pub answer_of : NestLimits → Program → Result Unit Finding
-answer_of limits p = unless_refused (refusal_of limits p) p.unit
+abbrev pub resolution_of : Program → Result Unit Finding
+resolution_of p = unless_refused (refusal_of p) p.unit
 
 -- The unit of a lawful program, and of any other the refusal that is reported.
-abbrev pub resolved : NestLimits → RawUnit → Result Unit Finding
-resolved limits u = answer_of limits (program_of u)
+abbrev pub resolved : RawUnit → Result Unit Finding
+resolved u = resolution_of (program_of u)

@@ -24,8 +24,8 @@ sum_of (c ∷ cs) [] = pos 0
 sum_of (c ∷ cs) (i ∷ is) = c *ℤ i +ℤ sum_of cs is
 
 -- the value of a form where the iterators have these values, that of level 0 first
-abbrev pub value_at : Form → List ℤ → ℤ
-value_at f is = f.constant +ℤ sum_of f.coefficients is
+abbrev pub form_value : Form → List ℤ → ℤ
+form_value f is = f.constant +ℤ sum_of f.coefficients is
 
 -- ---- forms of parts
 
@@ -80,18 +80,18 @@ abbrev pub of_both : (Form → Form → Option Form) → Option Form → Option 
 of_both join a b = option_and_then (λ f. option_and_then (λ g. join f g) b) a
 
 -- `int` literals, iterators, sums, differences, negations, and products with a constant; each part keeps the limit
-abbrev pub form_at : Expr-F (Option Form) → Option Form
-form_at (Expr-F.Literal (Int n)) = limited (constant_form n)
-form_at (Expr-F.Iter level) = Some (iterator_form level)
-form_at (Expr-F.Unary Neg a) = option_and_then (λ f. limited (negated f)) a
-form_at (Expr-F.Binary Add a b) = of_both (λ f g. limited (sum_form f g)) a b
-form_at (Expr-F.Binary Sub a b) = of_both (λ f g. limited (sum_form f (negated g))) a b
-form_at (Expr-F.Binary Mul a b) = of_both product_form a b
-form_at e = None
+abbrev pub form_step : Expr-F (Option Form) → Option Form
+form_step (Expr-F.Literal (Int n)) = limited (constant_form n)
+form_step (Expr-F.Iter level) = Some (iterator_form level)
+form_step (Expr-F.Unary Neg a) = option_and_then (λ f. limited (negated f)) a
+form_step (Expr-F.Binary Add a b) = of_both (λ f g. limited (sum_form f g)) a b
+form_step (Expr-F.Binary Sub a b) = of_both (λ f g. limited (sum_form f (negated g))) a b
+form_step (Expr-F.Binary Mul a b) = of_both product_form a b
+form_step e = None
 
 -- The form of an expression that is affine, and nothing for any other.
 abbrev pub form_of : Expr → Option Form
-form_of = fold-Expr (Option Form) form_at
+form_of = fold-Expr (Option Form) form_step
 
 -- the constant of an expression whose form is constant
 abbrev pub constant_of : Expr → Option ℤ

@@ -1,5 +1,5 @@
 -- What a name means where it stands (C17 6.2.1).
-use Rattle.std.specs.Prelude.{ℕ, zero, suc, Bool, ◌||◌, nat_eq, if◌then◌else◌, bytes_eq, List, [], ◌∷◌, Option, Some, None}
+use Rattle.std.specs.Prelude.{ℕ, zero, suc, Bool, nat_eq, if◌then◌else◌, bytes_eq, List, [], ◌∷◌, Option, Some, None}
 use Rattle.std.specs.List.{list_any}
 use Rattle.species_ast.specs.Spelling.{Spelling}
 use Rattle.species_ast.specs.declared.tree.Kind.{Kind}
@@ -24,9 +24,8 @@ pub data Meaning : Type 0 where
 pub record Scope : Type 0 where
   -- the names that are declared there, the last one first
   pub names : List (List ℕ × Meaning)
-  -- how many loops stand around it, and whether one of them has a parallel mark
+  -- how many loops stand around it
   pub level : ℕ
-  pub in_nest : Bool
   -- how many locals are declared before it, in this scope or another
   pub serials : ℕ
   -- the serial numbers of the locals that loops without `int` have as their iterators; these do not change from place to place
@@ -50,9 +49,8 @@ abbrev pub scope_with_local : Spelling → Local → Scope → Scope
 scope_with_local name x s = record s { names = (name.text, Variable x) ∷ s.names; serials = suc s.serials }
 
 -- in the limit, the step and the body of a loop (C17 6.8.5)
-abbrev pub in_loop : Spelling → Bool → Scope → Scope
-in_loop iter marked s =
-    record s { names = (iter.text, Iterator s.level) ∷ s.names; level = suc s.level; in_nest = s.in_nest || marked }
+abbrev pub in_loop : Spelling → Scope → Scope
+in_loop iter s = record s { names = (iter.text, Iterator s.level) ∷ s.names; level = suc s.level }
 
 -- behind a scope that ends: what was declared in it is gone
 abbrev pub behind : Scope → Scope → Scope

@@ -1,5 +1,5 @@
 -- What a whole program becomes.
-use Rattle.std.specs.Prelude.{ℕ, suc, false, List, [], ◌∷◌, ◌++◌, map, flat_map, length, ℤ, pos, negsuc, Option, Some, None}
+use Rattle.std.specs.Prelude.{ℕ, suc, List, [], ◌∷◌, ◌++◌, map, flat_map, length, ℤ, pos, negsuc, Option, Some, None}
 use Rattle.std.specs.List.{filter_map}
 use Rattle.species_ast.specs.Spelling.{Spelling}
 use Rattle.species_ast.specs.declared.tree.Kind.{Kind}
@@ -86,7 +86,7 @@ pub record Program : Type 0 where
 
 -- what is declared before anything is
 abbrev pub first_scope : List ℕ → Scope
-first_scope iterators = record { names = []; level = 0; in_nest = false; serials = 0; iterators = iterators }
+first_scope iterators = record { names = []; level = 0; serials = 0; iterators = iterators }
 
 abbrev pub arrays_of : RawItem → List ArrayParts
 arrays_of (item.Include header) = []

@@ -30,16 +30,14 @@ use Rattle.species_ast.specs.Grammar.Expressions.{place_of}
 use Rattle.species_ast.specs.Scope.Forms.{constant_of}
 use Rattle.species_ast.specs.Scope.Meanings.{Meaning, Scope, scope_with_local, in_loop, behind, is_among, local_number, Role, Declared, Assigned, Iterates, InHeader, Occurrence, occurrence}
 use Rattle.species_ast.specs.Scope.Expressions.{ExprReading, ResolvedTarget, reading, target_in, value_of}
-use Rattle.species_ast.specs.Scope.Nests.{is_parallel}
 
 -- ---- what is noted
 
--- A loop where it stands.
+-- A loop where it is written.
 pub record LoopSite : Type 0 where
   pub loop : Loop
-  -- how many loops stand around it, and whether one of them has a parallel mark
+  -- how many loops stand around it
   pub level : ℕ
-  pub in_nest : Bool
   -- the places of its `for`, its start and its limit
   pub place : ℕ
   pub start : ℕ
@@ -253,7 +251,7 @@ is_one iter names = list_all (λ n. bytes_eq n.text iter.text) names
 -- A loop is a scope. Its start stands outside of it; limit, step and body stand inside.
 abbrev pub loop_piece : Parts → PlacedWalk
 loop_piece l p s =
-    let inner = in_loop l.iter (is_parallel (mark_of l.parallel)) s in
+    let inner = in_loop l.iter s in
     let start = l.start s in
     let limit = l.limit inner in
     let by = l.step inner in
@@ -264,7 +262,6 @@ loop_piece l p s =
     let site : LoopSite = record {
       loop = loop;
       level = s.level;
-      in_nest = s.in_nest;
       place = p;
       start = l.start_place;
       limit = l.limit_place;

@@ -5,6 +5,7 @@ use Rattle.species_ast.specs.declared.tree.Schedule.{Schedule}
 use Rattle.species_ast.specs.declared.raw.RawStmt.{RawStmt, fold-RawStmt}
 use Rattle.species_ast.specs.declared.raw.RawWhat.TheOpen.{RawWhat-F}
 use Rattle.species_ast.specs.declared.raw.RawUnit.{RawUnit}
+use Rattle.species_ast.specs.Limits.{most_bytes}
 use Rattle.species_ast.specs.Marks.{all_true}
 use Rattle.species_ast.specs.Scope.Programs.{program_of}
 
@@ -48,5 +49,5 @@ has_depths = fold-RawStmt Bool Bool Bool depths_at (λ l. has_depth l.parallel &
 
 -- A program is no larger than a text can write it, and its parallel marks have depths.
 pub record IsWritten (u : RawUnit) : Type 0 where
-  pub small : length (program_of u).names + sum (map statements_in u.body) ≤ 4194304
+  pub small : length (program_of u).names + sum (map statements_in u.body) ≤ most_bytes
   pub depths : IsTrue (list_all has_depths u.body)

@@ -1,7 +1,8 @@
--- The load of a list of tokens: what an unfinished statement and the lists around it hold.
+-- The load of a list of tokens: how many of them stand behind what ended last, above what stood there behind the innermost
+-- `{` that is still open. It bounds the depth of reading.
 use Rattle.std.specs.Prelude.{ℕ, ◌+◌, ◌-◌, Bool, false, ◌&&◌, ◌||◌, not, nat_eq, nat_lt, if◌then◌else◌, List, [], ◌∷◌, codes, bytes_eq, Option, Some, None}
 use Rattle.species_ast.specs.Token.{Token}
-use Rattle.species_ast.specs.Text.Stream.{grammar_tokens}
+use Rattle.species_ast.specs.Limits.{most_load}
 use Rattle.species_ast.specs.declared.token.TokenKind.{TokenKind}
 use Rattle.species_ast.specs.declared.token.TokenKind.TheVariants as kind
 
@@ -58,6 +59,9 @@ first_above most l (t ∷ ts) =
     let after = counted t l in
     if nat_lt most after.load then Some t.place else first_above most (settled t ts after) ts
 
--- of a text's tokens, the first of the grammar's list with which the load becomes 2,001
+abbrev pub no_load : Load
+no_load = record { load = 0; blocks = []; brackets = 0 }
+
+-- the place of the first token of the grammar's list with which the load is above its limit
 abbrev pub load_refusal : List Token → Option ℕ
-load_refusal ts = first_above 2000 (record { load = 0; blocks = []; brackets = 0 }) (grammar_tokens ts)
+load_refusal ts = first_above most_load no_load ts

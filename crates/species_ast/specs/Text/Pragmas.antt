@@ -1,5 +1,5 @@
 -- The pragmas of OpenMP that are read (OpenMP 4.5, 2.7.1 and 2.13.6), by the parts behind the word `pragma`.
-use Rattle.std.specs.Prelude.{ℕ, Bool, false, not, ◌&&◌, nat_le, if◌then◌else◌, List, [], ◌∷◌, codes, pos, Option, Some, None, option_map, option_and_then, unwrap_or}
+use Rattle.std.specs.Prelude.{ℕ, Bool, false, not, ◌&&◌, nat_le, if◌then◌else◌, List, [], ◌∷◌, codes, pos, Option, Some, None, option_map, option_and_then}
 use Rattle.species_ast.specs.Text.Numbers.{literal_of, or_else}
 use Rattle.species_ast.specs.Text.Parts.{Part, is, is_nothing, after_words}
 use Rattle.species_ast.specs.declared.tree.Value.{Value}
@@ -60,13 +60,21 @@ abbrev pub depth_in : List Part → Option (ℕ × List Part)
 depth_in [] = None
 depth_in (n ∷ ps) = option_and_then (deep (int_of (literal_of n.text))) (after_words (codes ")" ∷ []) ps)
 
--- the depth that `collapse` says, or 1, and the parts behind it
-abbrev pub depth_of : List Part → ℕ × List Part
-depth_of ps = unwrap_or (option_and_then depth_in (after_words (codes "collapse" ∷ codes "(" ∷ []) ps)) (1, ps)
+-- behind the words `collapse(`, if they stand there; without them the depth is 1
+abbrev pub depth_behind : List Part → Option (List Part) → Option (ℕ × List Part)
+depth_behind ps None = Some (1, ps)
+depth_behind ps (Some others) = depth_in others
+
+-- the depth, and the parts behind it; nothing where `collapse` says none that is read, as `collapse(9)`
+abbrev pub depth_of : List Part → Option (ℕ × List Part)
+depth_of ps = depth_behind ps (after_words (codes "collapse" ∷ codes "(" ∷ []) ps)
+
+abbrev pub parallel_with : ℕ × List Part → Option TokenKind
+parallel_with p = option_map (kind.Parallel p.0) (schedule_of p.1)
 
 -- what stands behind `omp parallel for`
 abbrev pub parallel_of : List Part → Option TokenKind
-parallel_of ps = option_map (λ s. kind.Parallel (depth_of ps).0 s) (schedule_of (depth_of ps).1)
+parallel_of ps = option_and_then parallel_with (depth_of ps)
 
 abbrev pub atomic_of : List Part → Option TokenKind
 atomic_of ps = if is_nothing ps then Some kind.Atomic else None

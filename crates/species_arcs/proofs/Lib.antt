@@ -1,0 +1,2 @@
+pub mod PairwiseLaws
+pub mod SpanLaws

@@ -1,0 +1,5 @@
+pub mod Spans
+pub mod Pairwise
+pub mod Sets
+pub mod Sizes
+pub mod Shapes

@@ -1,0 +1,7 @@
+use Rattle.std.proofs.Common.{◌≡◌, drop}
+use Rattle.std.specs.Prelude.{map, bytes_eq}
+use Rattle.std.specs.List.{list_any}
+use Rattle.species_ast.proofs.words.is_one_of.Given as goal
+
+abbrev pub invariant-loop-other : goal.invariant-loop-other
+invariant-loop-other l = list_any (bytes_eq l.word) (map (λ w. w.now) l.words) ≡ list_any (bytes_eq l.word) (map (λ w. w.now) (drop l.other-index l.words))
