@@ -4,10 +4,8 @@ ghost use Rattle.std.specs.Str.Parse.{digits_value};
 ghost use Rattle.species_ast.specs.Text.Characters.{is_digit, is_hex_digit, run_of};
 ghost use Rattle.species_ast.specs.Text.Numbers.{goes_on, run_more, asked_kind, literal_in, unsigned_of, hex_literal, is_decimal, decimal_value, hex_value, literal_of};
 
-use crate::characters::{is_digit, is_word_byte};
 use crate::slices::{behind, front};
-use crate::words::is_one_of;
-use species_ast::{Kind, Value};
+use species_ast::{Kind, Value, is_digit, is_one_of, is_word_byte};
 
 const UNSIGNED_SUFFIXES: [&str; 2] = ["u", "U"];
 
