@@ -16,6 +16,9 @@ use Rattle.species_lexer.specs.declared.piece.Piece.TheVariants as piece
 use Rattle.species_lexer.specs.Pieces.{seen_piece, piece_at}
 use Rattle.species_lexer.specs.Found.{kind_of, length_in}
 use Rattle.species_lexer.specs.Fed.{CutPart, cut_size, refusal_at, past, put_all, with_rest, Fed, IsFed}
+use Rattle.species_lexer.specs.Entries.{Table}
+use Rattle.species_lexer.specs.Cut.{GivesTable}
+use Rattle.species_lexer.specs.declared.refusal.CutRefusal.{CutRefusal}
 use Rattle.species_lexer.proofs.Streams.{scope_lexeme, plain_kind}
 use Rattle.species_lexer.proofs.Plain.{plain_piece}
 
@@ -144,7 +147,7 @@ all_next first old new bytes rest at n q within placed same re is added =
     )
 
 -- the piece at the front of some bytes, where more bytes follow that do not change it
-size_of : Piece → ℕ
+abbrev pub size_of : Piece → ℕ
 size_of (Space n) = n
 size_of (Lexeme n text k) = n
 size_of (Define n name value) = n
@@ -198,3 +201,51 @@ ended_next first old new bytes rest at n size o within placed same re is se less
           ∙ ap (λ c. with_rest c (drop n rest ++ more)) (sym added.3)
           ∙ ap (λ z. with_rest new (z ++ more)) (ap (drop n) re ∙ drop-drop n at bytes),
     )
+
+-- ---- what came
+
+-- a piece of the text came, and waits
+fed_more : (c : CutPart) (left piece bytes : List ℕ) → IsFed (record { cut = c; left = left }) bytes → IsFed (record { cut = c; left = left ++ piece }) (bytes ++ piece)
+fed_more c left piece bytes fed =
+    record {
+      counted = omega (arith, fed.counted, length-append bytes piece, length-append left piece);
+      same = λ more. ap stream_of (append_assoc bytes piece more) ∙ fed.same (piece ++ more) ∙ ap (with_rest c) (sym (append_assoc left piece more));
+    }
+
+-- the first bytes that waited were cut
+fed_cut : (old new : CutPart) (left rest bytes : List ℕ) (n : ℕ) → IsFed (record { cut = old; left = left }) bytes → n ≤ length left → new.place ≡ old.place + n → rest ≡ drop n left
+    → ((more : List ℕ) → with_rest old (left ++ more) ≡ with_rest new (drop n left ++ more)) → IsFed (record { cut = new; left = rest }) bytes
+fed_cut old new left rest bytes n fed within placed re same =
+    record {
+      counted = omega (arith, fed.counted, within, placed, ap length re, length-drop n left);
+      same = λ more. fed.same more ∙ same more ∙ ap (λ z. with_rest new (z ++ more)) (sym re);
+    }
+
+pub fed_waits : (fed new : Fed) (piece : List ℕ) → new ≡ record { cut = fed.cut; left = fed.left ++ piece } → (bytes : List ℕ) → IsFed fed bytes → IsFed new (bytes ++ piece)
+fed_waits fed new piece e bytes h = subst (λ f. IsFed f (bytes ++ piece)) (sym e) (fed_more fed.cut fed.left piece bytes h)
+
+pub fed_is_cut : (fed new : Fed) (piece left : List ℕ) (n : ℕ) → left ≡ fed.left ++ piece → n ≤ length left → new.cut.place ≡ fed.cut.place + n → new.left ≡ drop n left
+    → ((more : List ℕ) → with_rest fed.cut (left ++ more) ≡ with_rest new.cut (drop n left ++ more)) → (bytes : List ℕ) → IsFed fed bytes → IsFed new (bytes ++ piece)
+fed_is_cut fed new piece left n le within placed re same bytes h =
+    let f : IsFed (record { cut = fed.cut; left = left }) (bytes ++ piece) = subst (λ l. IsFed (record { cut = fed.cut; left = l }) (bytes ++ piece)) (sym le) (fed_more fed.cut fed.left piece bytes h) in
+    fed_cut fed.cut new.cut left new.left (bytes ++ piece) n f within placed re same
+
+-- nothing came
+pub fed_nothing : (fed : Fed) → fed ≡ record { cut = record { tokens = []; definitions = []; place = 0; is_head = true }; left = [] } → IsFed fed []
+fed_nothing fed e =
+    subst (λ f. IsFed f []) (sym e) (record { counted = refl; same = λ more. refl })
+
+-- all came
+whole_is : (fed : Fed) (bytes : List ℕ) → IsFed fed bytes → stream_of bytes ≡ with_rest fed.cut fed.left
+whole_is fed bytes h = ap stream_of (sym (append-nil bytes)) ∙ h.same [] ∙ ap (with_rest fed.cut) (append-nil fed.left)
+
+pub whole_cut : (fed : Fed) (table : Table) (new : CutPart) (bytes : List ℕ) → IsFed fed bytes → (with_rest fed.cut fed.left ≡ put_all new.tokens finished) × (new.place ≡ fed.cut.place + length fed.left)
+    → table ≡ record { tokens = new.tokens; length = new.place } → GivesTable (Ok table) bytes
+whole_cut fed table new bytes h all te =
+    let as_stream : List Token → TokenStream = λ ts. record { tokens = ts; refusal = None } in (
+      whole_is fed bytes h ∙ all.0 ∙ ap as_stream (append-nil new.tokens) ∙ ap as_stream (sym (ap (λ t. t.tokens) te)),
+      omega (arith, ap (λ t. t.length) te, all.1, h.counted),
+    )
+
+pub whole_refused : (fed : Fed) (bytes : List ℕ) (r : LexRefusal) → IsFed fed bytes → (with_rest fed.cut fed.left).refusal ≡ Some r → (stream_of bytes).refusal ≡ Some r
+whole_refused fed bytes r h e = ap (λ s. s.refusal) (whole_is fed bytes h) ∙ e
