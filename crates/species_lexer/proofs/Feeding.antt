@@ -17,8 +17,9 @@ use Rattle.species_lexer.specs.Pieces.{seen_piece, piece_at}
 use Rattle.species_lexer.specs.Found.{kind_of, length_in}
 use Rattle.species_lexer.specs.Fed.{CutPart, cut_size, refusal_at, past, put_all, with_rest, Fed, IsFed}
 use Rattle.species_lexer.specs.Entries.{Table}
-use Rattle.species_lexer.specs.Cut.{GivesTable}
+use Rattle.species_lexer.specs.Cut.{CutsAll, GivesTable}
 use Rattle.species_lexer.specs.declared.refusal.CutRefusal.{CutRefusal}
+use Rattle.species_lexer.specs.declared.refusal.CutRefusal.TheVariants.{Lex, Memory}
 use Rattle.species_lexer.proofs.Streams.{scope_lexeme, plain_kind}
 use Rattle.species_lexer.proofs.Plain.{plain_piece}
 
@@ -239,13 +240,23 @@ fed_nothing fed e =
 whole_is : (fed : Fed) (bytes : List ℕ) → IsFed fed bytes → stream_of bytes ≡ with_rest fed.cut fed.left
 whole_is fed bytes h = ap stream_of (sym (append-nil bytes)) ∙ h.same [] ∙ ap (with_rest fed.cut) (append-nil fed.left)
 
-pub whole_cut : (fed : Fed) (table : Table) (new : CutPart) (bytes : List ℕ) → IsFed fed bytes → (with_rest fed.cut fed.left ≡ put_all new.tokens finished) × (new.place ≡ fed.cut.place + length fed.left)
-    → table ≡ record { tokens = new.tokens; length = new.place } → GivesTable (Ok table) bytes
-whole_cut fed table new bytes h all te =
-    let as_stream : List Token → TokenStream = λ ts. record { tokens = ts; refusal = None } in (
-      whole_is fed bytes h ∙ all.0 ∙ ap as_stream (append-nil new.tokens) ∙ ap as_stream (sym (ap (λ t. t.tokens) te)),
-      omega (arith, ap (λ t. t.length) te, all.1, h.counted),
-    )
+whole_cut_here : (fed : Fed) (new : CutPart) (bytes : List ℕ) → with_rest fed.cut fed.left ≡ put_all new.tokens finished → new.place ≡ fed.cut.place + length fed.left → IsFed fed bytes
+    → (stream_of bytes ≡ record { tokens = new.tokens; refusal = None }) × (new.place ≡ length bytes)
+whole_cut_here fed new bytes all placed h =
+    let as_stream : List Token → TokenStream = λ ts. record { tokens = ts; refusal = None } in
+    (whole_is fed bytes h ∙ all ∙ ap as_stream (append-nil new.tokens), omega (arith, placed, h.counted))
 
-pub whole_refused : (fed : Fed) (bytes : List ℕ) (r : LexRefusal) → IsFed fed bytes → (with_rest fed.cut fed.left).refusal ≡ Some r → (stream_of bytes).refusal ≡ Some r
-whole_refused fed bytes r h e = ap (λ s. s.refusal) (whole_is fed bytes h) ∙ e
+pub whole_cut : (seen fed : Fed) (left : List ℕ) (new : CutPart) → seen ≡ fed → left ≡ seen.left → with_rest seen.cut left ≡ put_all new.tokens finished → new.place ≡ seen.cut.place + length left
+    → (bytes : List ℕ) → IsFed fed bytes → (stream_of bytes ≡ record { tokens = new.tokens; refusal = None }) × (new.place ≡ length bytes)
+whole_cut seen fed left new se le all placed bytes h =
+    whole_cut_here seen new bytes (ap (with_rest seen.cut) (sym le) ∙ all) (omega (arith, placed, ap length le)) (subst (λ f. IsFed f bytes) (sym se) h)
+
+pub whole_refused : (seen fed : Fed) (left : List ℕ) (r : LexRefusal) → seen ≡ fed → left ≡ seen.left → (with_rest seen.cut left).refusal ≡ Some r
+    → (bytes : List ℕ) → IsFed fed bytes → (stream_of bytes).refusal ≡ Some r
+whole_refused seen fed left r se le e bytes h =
+    ap (λ s. s.refusal) (whole_is seen bytes (subst (λ f. IsFed f bytes) (sym se) h) ∙ ap (with_rest seen.cut) (sym le)) ∙ e
+
+pub whole_answered : (seen fed : Fed) (left : List ℕ) (new : CutPart) (refusal : CutRefusal) (result : Result Table CutRefusal) → seen ≡ fed → left ≡ seen.left → CutsAll (Err refusal) seen.cut new left
+    → result ≡ Err refusal → (bytes : List ℕ) → IsFed fed bytes → GivesTable result bytes
+whole_answered seen fed left new (Lex r) result se le e re bytes h = subst (λ a. GivesTable a bytes) (sym re) (whole_refused seen fed left r se le e bytes h)
+whole_answered seen fed left new Memory result se le e re bytes h = subst (λ a. GivesTable a bytes) (sym re) tt
