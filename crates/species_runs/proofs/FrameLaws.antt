@@ -52,11 +52,11 @@ abbrev pub AllMay : (ℕ → Bool) → List ℕ → Type 0
 AllMay may [] = Unit {0}
 AllMay may (x ∷ xs) = (may x ≡ true) × AllMay may xs
 
-may_left : (may : ℕ → Bool) (xs ys : List ℕ) → AllMay may (xs ++ ys) → AllMay may xs
+pub may_left : (may : ℕ → Bool) (xs ys : List ℕ) → AllMay may (xs ++ ys) → AllMay may xs
 may_left may [] ys h = tt
 may_left may (x ∷ xs) ys h = (h.0, may_left may xs ys h.1)
 
-may_right : (may : ℕ → Bool) (xs ys : List ℕ) → AllMay may (xs ++ ys) → AllMay may ys
+pub may_right : (may : ℕ → Bool) (xs ys : List ℕ) → AllMay may (xs ++ ys) → AllMay may ys
 may_right may [] ys h = h
 may_right may (x ∷ xs) ys h = may_right may xs ys h.1
 
@@ -177,7 +177,7 @@ or_right : (a b : Bool) → b ≡ true → (a || b) ≡ true
 or_right true b h = refl
 or_right false b h = h
 
-all_in : (may : ℕ → Bool) (xs : List ℕ) → ((y : ℕ) → is_among xs y ≡ true → may y ≡ true) → AllMay may xs
+pub all_in : (may : ℕ → Bool) (xs : List ℕ) → ((y : ℕ) → is_among xs y ≡ true → may y ≡ true) → AllMay may xs
 all_in may [] h = tt
 all_in may (x ∷ xs) h = (h x (or_left (nat_eq x x) (is_among xs x) (itself x)), all_in may xs (λ y there. h y (or_right (nat_eq y x) (is_among xs y) there)))
   where
