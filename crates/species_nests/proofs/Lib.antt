@@ -1,7 +1,9 @@
 pub mod ArrivalLaws
+pub mod FitLaws
 pub mod Inversion
 pub mod IteratorArrivals
 pub mod NestLaws
 pub mod QuietLaws
 pub mod RunningLaws
+pub mod StaysLaws
 pub mod Unique
