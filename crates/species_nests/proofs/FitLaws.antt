@@ -102,7 +102,7 @@ at_below p (suc n) y less h = go (λ l t. at_below p n y l t) (nat_eq y n) refl
 
 none_past : (n y : ℕ) (xs : List ℕ) → nat_lt y n ≡ false → list_all (λ x. nat_lt x n) xs ≡ true → count xs y ≡ 0
 none_past n y [] past h = refl
-none_past n y (x ∷ xs) past h = go (nat_eq y x) refl (and_true (nat_lt x n) (list_all (λ x. nat_lt x n) xs) h)  (λ t. none_past n y xs past t)
+none_past n y (x ∷ xs) past h = go (nat_eq y x) refl (and_true (nat_lt x n) (list_all (λ x. nat_lt x n) xs) h) (λ t. none_past n y xs past t)
   where
     go : (b : Bool) → nat_eq y x ≡ b → (nat_lt x n ≡ true) × (list_all (λ x. nat_lt x n) xs ≡ true) → (list_all (λ x. nat_lt x n) xs ≡ true → count xs y ≡ 0) → count (x ∷ xs) y ≡ 0
     go true is both rest =
@@ -138,7 +138,7 @@ pub record FitsInList (w : Around) (xs : List Stmt) (f : Frame) : Type 0 where
   pub apart : AreApart (locals_in xs) w.locals
   pub only : HasOnly w.locals f
 
-among_front : (xs ys : List ℕ) (y : ℕ) → is_among xs y ≡ true → is_among (xs ++ ys) y ≡ true
+pub among_front : (xs ys : List ℕ) (y : ℕ) → is_among xs y ≡ true → is_among (xs ++ ys) y ≡ true
 among_front [] ys y h = absurd cc
 among_front (x ∷ xs) ys y h = go (λ t. among_front xs ys y t) (nat_eq y x) h
   where
@@ -184,10 +184,10 @@ apart_behind c x xs scope once apart y there =
 abbrev loop_locals : Loop-F (List ℕ) (List ℕ) → List ℕ
 loop_locals l = flat_map (λ xs. xs) l.body
 
-locals_of_loop : (l : Loop) → locals_of (stmt.For l) ≡ locals_in (out-Loop l).body
+pub locals_of_loop : (l : Loop) → locals_of (stmt.For l) ≡ locals_in (out-Loop l).body
 locals_of_loop l = fold_stmt-For locals_at loop_locals l ∙ fold_loop-out locals_at loop_locals l
 
-abbrev deeper : Around → Around
+abbrev pub deeper : Around → Around
 deeper w = record w { level = suc w.level }
 
 body_fits : (w : Around) (l : Loop) (f : Frame) → FitsAt w (stmt.For l) f → FitsInList (deeper w) (out-Loop l).body f
@@ -208,8 +208,7 @@ branches_fit w place test body otherwise f fit =
     let all = ap (λ m. m.holds w) (sym (fold_stmt-If made_at made_loop place test body otherwise)) ∙ fit.holds in
     let both = and_true (list_holds (map made body) w) (list_holds (map made otherwise) w) (and_true _ (list_holds (map made body) w && list_holds (map made otherwise) w) all).1 in
     let once : Once (locals_in body ++ locals_in otherwise) = subst Once (locals-If place test body otherwise) fit.once in
-    let apart : AreApart (locals_in body ++ locals_in otherwise) w.locals = subst (λ xs. AreApart xs w.locals) (locals-If place test body otherwise) fit.apart in
-    (
+    let apart : AreApart (locals_in body ++ locals_in otherwise) w.locals = subst (λ xs. AreApart xs w.locals) (locals-If place test body otherwise) fit.apart in (
       record {
         holds = both.0;
         once = once_left (locals_in body) (locals_in otherwise) once;

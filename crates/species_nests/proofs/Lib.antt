@@ -1,7 +1,9 @@
 pub mod ArrivalLaws
 pub mod FitLaws
 pub mod Inversion
+pub mod InwardLaws
 pub mod IteratorArrivals
+pub mod NestFits
 pub mod NestLaws
 pub mod QuietLaws
 pub mod RunningLaws

@@ -41,7 +41,7 @@ scope_of_one s at f h =
     ∙ (λ i. then_do (s.does (at ++ 0 ∷ []) f) (λ g. Ret (cleared (h i) g)))
     ∙ then_do-Ret (s.does (at ++ 0 ∷ []) f)
 
-not_some : (o : List ℕ → Option Placed) (at : List ℕ) (p : Placed) → o ≡ (λ at. None) → o at ≡ Some p → ⊥
+pub not_some : (o : List ℕ → Option Placed) (at : List ℕ) (p : Placed) → o ≡ (λ at. None) → o at ≡ Some p → ⊥
 not_some o at p h is = let e = ap (λ k. k at) (sym h) ∙ is in absurd cc
 
 only_is : (w : Context) (ss : List Stmt) → Each (SoleIs w) ss → (at : List ℕ) (p : Placed) → only ss at ≡ Some p → (f : Frame) → does_scope w ss at 0 f ≡ loop_of w p.loop p.at f
@@ -52,13 +52,13 @@ only_is w (x ∷ []) h at p is f =
 only_is w (x ∷ y ∷ ss) h at p is f = absurd cc
 
 -- what a statement's sole loop is in a fold that sees the children
-abbrev no_loops : Loop-F (Stmt × (List ℕ → Option Placed)) (Loop × Unit {0}) → Unit {0}
+abbrev pub no_loops : Loop-F (Stmt × (List ℕ → Option Placed)) (Loop × Unit {0}) → Unit {0}
 no_loops l = tt
 
-sole-For : (l : Loop) → sole (stmt.For l) ≡ (λ at. Some (record { loop = l; at = at }))
+pub sole-For : (l : Loop) → sole (stmt.For l) ≡ (λ at. Some (record { loop = l; at = at }))
 sole-For l = para_stmt-For sole_at no_loops l
 
-sole-Block : (body : List Stmt) → sole (stmt.Block body) ≡ only body
+pub sole-Block : (body : List Stmt) → sole (stmt.Block body) ≡ only body
 sole-Block body = para_stmt-Block sole_at no_loops body ∙ ap only_of (seconds sole body)
 
 pub sole_is : (w : Context) (x : Stmt) → SoleIs w x
@@ -79,7 +79,7 @@ sole_is w = stmt_ind (SoleIs w) (record {
       };
 })
 
-abbrev under : ℕ → List Stmt → List ℕ → Option Placed → Nest
+abbrev pub under : ℕ → List Stmt → List ℕ → Option Placed → Nest
 under d body at o = unwrap_or
     (option_map (λ l. let n = nest_in d (out-Loop l.loop).body l.at in record n { loops = l ∷ n.loops }) o)
     (record { loops = []; body = body; at = at })

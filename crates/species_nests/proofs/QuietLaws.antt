@@ -117,10 +117,10 @@ each-join : {X : Type 0} (P : X → Type 0) (xs ys : List X) → Each P xs → E
 each-join P [] ys p q = q
 each-join P (x ∷ xs) ys p q = (p.0, each-join P xs ys p.1 q)
 
-abbrev QuietIn : Context → Stmt → Type 0
+abbrev pub QuietIn : Context → Stmt → Type 0
 QuietIn c x = (w : Around) → (made x).holds w ≡ true → Each (HasQuietHeader c) (loops_of x)
 
-list_quiet : (c : Context) (xs : List Stmt) → Each (QuietIn c) xs → (w : Around) → list_holds (map made xs) w ≡ true → Each (HasQuietHeader c) (loops_in xs)
+pub list_quiet : (c : Context) (xs : List Stmt) → Each (QuietIn c) xs → (w : Around) → list_holds (map made xs) w ≡ true → Each (HasQuietHeader c) (loops_in xs)
 list_quiet c [] each w h = tt
 list_quiet c (x ∷ xs) each w h =
     let next = record w { locals = (made x).declares ++ w.locals } in
@@ -130,7 +130,7 @@ list_quiet c (x ∷ xs) each w h =
 no_loop : (c : Context) (x : Stmt) → loops_of x ≡ [] → Each (HasQuietHeader c) (loops_of x)
 no_loop c x h = subst (Each (HasQuietHeader c)) (sym h) tt
 
-made_quiet : (c : Context) (x : Stmt) → QuietIn c x
+pub made_quiet : (c : Context) (x : Stmt) → QuietIn c x
 made_quiet c = stmt_ind (QuietIn c) (record {
   assign = λ place a subs value w h. no_loop c (stmt.Assign place a subs value) (para_stmt-Assign loops_at body_loops place a subs value);
   add_to = λ place a subs value atomic w h. no_loop c (stmt.AddTo place a subs value atomic) (para_stmt-AddTo loops_at body_loops place a subs value atomic);
