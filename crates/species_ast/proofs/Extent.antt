@@ -128,7 +128,7 @@ splice_stays bytes more h =
     let long : length (bytes ++ more) ≡ length bytes + length more = length-append bytes more in
     let less : nat_lt n (length (bytes ++ more)) ≡ true = lt-ltb n (length (bytes ++ more)) (omega (arith, h, long)) in
     let whole : splice_at (bytes ++ more) ≡ splice_of (nat_lt n (length (bytes ++ more))) (take n (bytes ++ more)) =
-        ap (λ i. splice_of (nat_lt i (length (bytes ++ more))) (take i (bytes ++ more))) e in
+    ap (λ i. splice_of (nat_lt i (length (bytes ++ more))) (take i (bytes ++ more))) e in
     whole
     ∙ ap (λ c. splice_of c (take n (bytes ++ more))) less
     ∙ ap (splice_of true) (take-append-le n bytes more (omega (arith, h)))
@@ -212,10 +212,12 @@ directive_stays b bytes more h =
     let n : ℕ = suc (line_len bytes) in
     let e : line_len (bytes ++ more) ≡ line_len bytes = run_stays (λ a. not (is_line_feed a)) bytes more (omega (arith, h)) in
     let i = splice_stays (b ∷ bytes) more (omega (arith, h, line_after b bytes)) in
-    let t = take-append-le n (b ∷ bytes) more (omega (arith, h)) in
-    (ap (λ m. directive (suc m) (splice_at (b ∷ (bytes ++ more))) (form_of (take (suc m) (b ∷ (bytes ++ more))))) e
-      ∙ ap (λ s. directive n s (form_of (take n (b ∷ (bytes ++ more))))) i
-      ∙ ap (λ text. directive n (splice_at (b ∷ bytes)) (form_of text)) t, ap suc e)
+    let t = take-append-le n (b ∷ bytes) more (omega (arith, h)) in (
+      ap (λ m. directive (suc m) (splice_at (b ∷ (bytes ++ more))) (form_of (take (suc m) (b ∷ (bytes ++ more))))) e
+          ∙ ap (λ s. directive n s (form_of (take n (b ∷ (bytes ++ more))))) i
+          ∙ ap (λ text. directive n (splice_at (b ∷ bytes)) (form_of text)) t,
+      ap suc e,
+    )
 
 block_stays : (is_head : Bool) (b : ℕ) (bytes more : List ℕ) → unwrap_or (comment_len (b ∷ bytes)) (length (b ∷ bytes)) < length (b ∷ bytes) → Stays BlockComment is_head b bytes more
 unfolding Stays
@@ -239,10 +241,12 @@ unfolding Stays
 number_stays is_head b bytes more h =
     let n : ℕ = suc (run_more b bytes) in
     let e = more_stays b bytes more (omega (arith, h)) in
-    let t = take-append-le n (b ∷ bytes) more (omega (arith, h)) in
-    (ap (λ m. number (suc m) (b ∷ (bytes ++ more)) (literal_of (take (suc m) (b ∷ (bytes ++ more))))) e
-      ∙ ap (λ text. number n (b ∷ (bytes ++ more)) (literal_of text)) t
-      ∙ same_number n (b ∷ (bytes ++ more)) (b ∷ bytes) (literal_of (take n (b ∷ bytes))) t, ap suc e)
+    let t = take-append-le n (b ∷ bytes) more (omega (arith, h)) in (
+      ap (λ m. number (suc m) (b ∷ (bytes ++ more)) (literal_of (take (suc m) (b ∷ (bytes ++ more))))) e
+          ∙ ap (λ text. number n (b ∷ (bytes ++ more)) (literal_of text)) t
+          ∙ same_number n (b ∷ (bytes ++ more)) (b ∷ bytes) (literal_of (take n (b ∷ bytes))) t,
+      ap suc e,
+    )
 
 one_and_more : (n : ℕ) → 1 ≤ at_least_one n
 one_and_more zero = omega arith

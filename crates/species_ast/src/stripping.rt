@@ -1,3 +1,5 @@
+//! Kernels without their marks.
+
 ghost use Rattle.std.specs.Prelude.{◌≡◌, IfOk, false, map};
 ghost use Rattle.species_ast.specs.Marks.{IsUnmarked, HasNoLine};
 ghost use Rattle.species_ast.specs.Scope.References.{HasReadSize};

@@ -1,3 +1,5 @@
+//! The laws of texts and their tokens.
+
 ghost use Rattle.species_ast.specs.Text.Law.{CutsOneWay, ReadsAhead, TakesTheLongest};
 
 /// Each text is cut into tokens, or refused, in exactly one way. What a piece of it is, is known when

@@ -1,7 +1,6 @@
 //! Cuts the text of a program into tokens, one at a time and without memory of its own.
 #![tactic(auto)]
 
-mod characters;
 mod comments;
 mod cut;
 mod directives;
@@ -19,7 +18,6 @@ mod slices;
 mod table;
 mod token;
 mod tokens;
-mod words;
 
 pub use refusal::CutRefusal;
 pub use species_ast::{LexRefusal, TokenKind};

@@ -28,6 +28,46 @@ static NUMBERS: [(&str, &str); 14] = [
     ("0x100000000", "BadNumber(0)"),
 ];
 
+static LONG_NUMBERS: [(&str, &str); 16] = [
+    ("2147483648ll", "0 Number(Long(2147483648)) 2147483648ll"),
+    (
+        "9223372036854775807LL",
+        "0 Number(Long(9223372036854775807)) 9223372036854775807LL",
+    ),
+    ("9223372036854775808ll", "BadNumber(0)"),
+    (
+        "9223372036854775808ull",
+        "0 Number(UnsignedLong(9223372036854775808)) 9223372036854775808ull",
+    ),
+    (
+        "18446744073709551615LLU",
+        "0 Number(UnsignedLong(18446744073709551615)) 18446744073709551615LLU",
+    ),
+    ("18446744073709551616ULL", "BadNumber(0)"),
+    ("0x80000000ll", "0 Number(Long(2147483648)) 0x80000000ll"),
+    ("0x100000000LL", "0 Number(Long(4294967296)) 0x100000000LL"),
+    (
+        "0x7fffffffffffffffll",
+        "0 Number(Long(9223372036854775807)) 0x7fffffffffffffffll",
+    ),
+    (
+        "0x8000000000000000ll",
+        "0 Number(UnsignedLong(9223372036854775808)) 0x8000000000000000ll",
+    ),
+    (
+        "0XFFFFFFFFFFFFFFFFuLL",
+        "0 Number(UnsignedLong(18446744073709551615)) 0XFFFFFFFFFFFFFFFFuLL",
+    ),
+    ("0x10000000000000000ull", "BadNumber(0)"),
+    ("1lL", "BadNumber(0)"),
+    ("1lul", "BadNumber(0)"),
+    ("5ll-1l", "0 Number(Long(5)) 5ll | 3 Punct - | BadNumber(4)"),
+    (
+        "#define N 5llU\nN",
+        "0 Define(UnsignedLong(5)) N | 15 Number(UnsignedLong(5)) N",
+    ),
+];
+
 static WORDS: [(&str, &str); 12] = [
     ("a <<= b", "0 Name a | 2 Punct <<= | 6 Name b"),
     (
@@ -209,6 +249,11 @@ fn compare(rt: &impl Abort, alloc: Global, cases: &[(&str, &str)]) -> Result<(),
 #[test]
 fn numbers_have_the_tokens_of_the_table(rt: HostRuntime) -> Result<(), Fail> {
     compare(&rt, rt.alloc(), &NUMBERS)
+}
+
+#[test]
+fn numbers_of_64_bits_have_the_tokens_of_the_table(rt: HostRuntime) -> Result<(), Fail> {
+    compare(&rt, rt.alloc(), &LONG_NUMBERS)
 }
 
 #[test]

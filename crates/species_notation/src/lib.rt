@@ -5,6 +5,8 @@ mod given;
 mod law;
 mod parts;
 mod raw;
+mod writing;
 
 pub use given::{GivenArc, GivenDim, Names, SpeciesLine};
 pub use law::law_notation;
+pub use writing::{write_arc, write_line};
