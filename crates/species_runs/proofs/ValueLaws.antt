@@ -14,7 +14,7 @@ use Rattle.species_runs.specs.Values.{IsOf, KeepsValues}
 
 -- ---- reduced numbers
 
-residue_below : (n : ℤ) (m : ℕ) → 0 < m → residue n m < m
+pub residue_below : (n : ℤ) (m : ℕ) → 0 < m → residue n m < m
 residue_below (pos n) m h = mod-lt n h
 residue_below (negsuc n) m h = omega arith
 
