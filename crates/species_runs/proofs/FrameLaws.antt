@@ -18,10 +18,10 @@ use Rattle.species_ast.specs.Scope.WellMade.{Around, list_holds, made}
 use Rattle.species_ast.proofs.Folds.{fold_stmt-SetLocal, fold_stmt-If, fold_stmt-For, fold_stmt-Block, fold_loop}
 use Rattle.species_ast.proofs.Induction.{Each, each_all, stmt_ind}
 use Rattle.species_ast.proofs.RunLaws.{step-Assign, step-AddTo, step-Declare, step-SetLocal, step-If, step-For, step-Block, loop-roll, locals-Declare, locals-If, locals-For, locals-Block}
-use Rattle.species_runs.specs.Every.{Anything, Every, Gives}
+use Rattle.species_runs.specs.Every.{Anything, Gives}
 use Rattle.species_runs.specs.Scopes.{without, sets_at, sets_of, sets_in, outer_locals_set, HasOnly, IsBut, AreApart}
 use Rattle.species_runs.proofs.EveryLaws.{every-then_do, every_weaker, every_both, every_one, gives_behind}
-use Rattle.species_runs.proofs.ScopeLaws.{or_false, both_false, never_both, out_left, out_right, set_other, body_keeps_scope}
+use Rattle.species_runs.proofs.ScopeLaws.{or_false, both_false, never_both, set_other, body_keeps_scope}
 
 -- ---- frames
 

@@ -1,5 +1,5 @@
 -- Operators on values give values: what they give is a number of its kind.
-use Rattle.std.proofs.Common.{◌≡◌, refl, ap, sym, ◌∙◌, subst, arith, ℕ, zero, suc, ◌+◌, ◌*◌, ◌/◌, ◌^◌, ◌<◌, ◌≤◌, ℤ, pos, negsuc, neg_ℤ, ◌+ℤ◌, ◌-ℤ◌, ◌*ℤ◌, ◌≤ℤ◌, ◌<ℤ◌, Bool, true, false, if◌then◌else◌, Ok, Err}
+use Rattle.std.proofs.Common.{◌≡◌, refl, ap, sym, ◌∙◌, subst, arith, ℕ, suc, ◌+◌, ◌^◌, ◌<◌, ◌≤◌, ℤ, pos, negsuc, neg_ℤ, ◌-ℤ◌, ◌*ℤ◌, ◌≤ℤ◌, ◌<ℤ◌, Bool, true, false, if◌then◌else◌, Ok, Err}
 use Rattle.std.specs.Prelude.{◌-◌, ◌%◌, nat_lt, unsigned_abs, int_div, int_rem, int_lt, int_le, not, bit_and, bit_or, bit_xor}
 use Rattle.std.specs.Ordering.{int_eq}
 use Rattle.std.specs.Int.{int_shr}
@@ -14,7 +14,7 @@ use Rattle.species_ast.specs.declared.tree.Kind.TheVariants as kind
 use Rattle.species_ast.specs.declared.tree.Unary.{Unary}
 use Rattle.species_ast.specs.declared.tree.Unary.TheVariants.{Neg, Not, LogNot}
 use Rattle.species_ast.specs.declared.tree.Value.{Value}
-use Rattle.species_ast.specs.Operators.{Answer, kind_of, number_of, in_kind, joint, is_signed, bits_of, fits, residue, signed_from, bits_in, reduced, is_number_of, IsValue, exact_in, truth, is_true, quotient, remainder, and_then, is_count, left_by, right_by, binary_of, unary_of}
+use Rattle.species_ast.specs.Operators.{Answer, kind_of, number_of, in_kind, joint, is_signed, bits_of, fits, residue, signed_from, bits_in, reduced, IsValue, exact_in, truth, is_true, quotient, remainder, and_then, is_count, left_by, right_by, binary_of, unary_of}
 use Rattle.species_runs.proofs.ValueLaws.{residue_below, same_number, value_in}
 
 -- what an operator gives, if it gives anything, is a value

@@ -1,7 +1,7 @@
 -- Locals in and out of scope, and what a statement leaves of the frame.
 use Rattle.std.specs.Prelude.{◌≡◌, ℕ, Bool, true, false, not, List, [], ◌∷◌, ◌++◌, map, filter, flat_map, length, None}
 use Rattle.species_ast.specs.declared.tree.Stmt.{Stmt, fold-Stmt}
-use Rattle.species_ast.specs.declared.tree.Stmt.TheOpen.{Stmt-F, Loop-F}
+use Rattle.species_ast.specs.declared.tree.Stmt.TheOpen.{Stmt-F}
 use Rattle.species_ast.specs.Evaluation.{Frame, local_of}
 use Rattle.species_ast.specs.Run.{locals_in}
 use Rattle.species_ast.specs.Scope.Meanings.{is_among}
