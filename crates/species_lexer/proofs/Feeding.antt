@@ -130,9 +130,9 @@ placed_past c bytes n (Refused r) some e = let x : ⊥ = omega (arith, some, e) 
 placed_next : (first old new : CutPart) (bytes rest : List ℕ) (at n : ℕ) (p : Piece) → at ≤ length bytes → old.place ≡ first.place + at → rest ≡ drop at bytes → Added old new rest n p
     → (at + n ≤ length bytes) × (new.place ≡ first.place + (at + n))
 placed_next first old new bytes rest at n p within placed re added = (
-      omega (arith, within, added.1, ap length re, length-drop at bytes),
-      omega (arith, placed, ap (λ c. c.place) added.3, placed_past old rest n p added.0 added.2),
-    )
+  omega (arith, within, added.1, ap length re, length-drop at bytes),
+  omega (arith, placed, ap (λ c. c.place) added.3, placed_past old rest n p added.0 added.2),
+)
 
 pub all_next : (first old new : CutPart) (bytes rest : List ℕ) (at n : ℕ) (q : Piece) → at ≤ length bytes → old.place ≡ first.place + at → with_rest first bytes ≡ with_rest old (drop at bytes)
     → rest ≡ drop at bytes → Some q ≡ piece_at old.is_head rest → Added old new rest n (in_scope old.definitions q)
@@ -197,7 +197,7 @@ ended_next first old new bytes rest at n size o within placed same re is se less
       p.0,
       p.1,
       λ more.
-      same more ∙ ap (λ z. with_rest old (z ++ more)) (sym re)
+          same more ∙ ap (λ z. with_rest old (z ++ more)) (sym re)
           ∙ one_piece old rest more q n (still_there old.is_head rest more q is some short) added.0 added.1 added.2
           ∙ ap (λ c. with_rest c (drop n rest ++ more)) (sym added.3)
           ∙ ap (λ z. with_rest new (z ++ more)) (ap (drop n) re ∙ drop-drop n at bytes),

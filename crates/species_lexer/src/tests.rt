@@ -306,11 +306,7 @@ fn shown_table(alloc: Global, table: &TokenTable) -> Result<String, Fail> {
 }
 
 /// A table shows these tokens, or its refusal the last of these things.
-fn agrees(
-    alloc: Global,
-    found: &Result<TokenTable, CutRefusal>,
-    want: &str,
-) -> Result<bool, Fail> {
+fn agrees(alloc: Global, found: &Result<TokenTable, CutRefusal>, want: &str) -> Result<bool, Fail> {
     match found {
         Ok(table) => Ok(shown_table(alloc, table)?.as_str() == want),
         Err(CutRefusal::Lex(refusal)) => {
@@ -341,11 +337,7 @@ fn in_pieces(alloc: Global, text: Vec<u8>, piece: usize) -> Result<TokenTable, C
 }
 
 /// Each text in two pieces that meet at each place, and in pieces of some sizes.
-fn compare_pieces(
-    rt: &impl Abort,
-    alloc: Global,
-    cases: &[(&str, &str)],
-) -> Result<(), Fail> {
+fn compare_pieces(rt: &impl Abort, alloc: Global, cases: &[(&str, &str)]) -> Result<(), Fail> {
     for (text, want) in cases {
         let bytes = text.as_bytes();
         for at in 0..bytes.len() {
@@ -354,7 +346,10 @@ fn compare_pieces(
         }
         for piece in [1, 2, 3, 7, 4096] {
             let found = in_pieces(alloc, Vec::from_slice(alloc, bytes)?, piece);
-            assert!(rt; agrees(alloc, &found, want)?, "at {text} in pieces of {piece}");
+            assert!(rt;
+                agrees(alloc, &found, want)?,
+                "at {text} in pieces of {piece}"
+            );
         }
     }
     Ok(())
