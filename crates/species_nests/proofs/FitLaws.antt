@@ -1,10 +1,9 @@
 -- In a well made unit, wherever a run comes to a loop, the loop's body fits there, and so does the body of its nest.
-use Rattle.std.proofs.Common.{◌≡◌, arith, refl, ap, sym, ◌∙◌, subst, ℕ, zero, suc, ◌≤◌, ◌<◌, List, [], ◌∷◌, ◌++◌, map, flat_map, filter, length, Bool, true, false, ◌||◌, ◌&&◌, if◌then◌else◌, nat_eq, ℤ, Option, Some, None}
+use Rattle.std.proofs.Common.{◌≡◌, arith, refl, ap, sym, ◌∙◌, subst, ℕ, zero, suc, ◌≤◌, ◌<◌, List, [], ◌∷◌, ◌++◌, map, flat_map, filter, length, Bool, true, false, ◌||◌, ◌&&◌, if◌then◌else◌, nat_eq, Option, None}
 use Rattle.std.specs.Prelude.{nat_lt, slice_get, unwrap_or}
 use Rattle.std.specs.List.{list_all}
-use Rattle.std.proofs.lemmas.List.{append-nil}
 use Rattle.std.proofs.lemmas.Bool.Decides.{nat_tests}
-use Rattle.species_ast.specs.declared.tree.Loop.{Loop, out-Loop, roll-Loop}
+use Rattle.species_ast.specs.declared.tree.Loop.{Loop, out-Loop}
 use Rattle.species_ast.specs.declared.tree.LocalInfo.{LocalInfo}
 use Rattle.species_ast.specs.declared.tree.Expr.{Expr}
 use Rattle.species_ast.specs.declared.tree.Stmt.{Stmt}
@@ -12,20 +11,19 @@ use Rattle.species_ast.specs.declared.tree.Stmt.TheOpen.{Loop-F}
 use Rattle.species_ast.specs.declared.tree.Stmt.TheVariants as stmt
 use Rattle.species_ast.specs.declared.tree.Unit.{Unit as Program}
 use Rattle.species_ast.specs.declared.tree.Value.{Value}
-use Rattle.species_ast.specs.Accesses.{Joins, Cells, Ended, run}
-use Rattle.species_ast.specs.Evaluation.{Frame, Context, local_of}
+use Rattle.species_ast.specs.Accesses.{Joins, Cells}
+use Rattle.species_ast.specs.Evaluation.{Frame, Context}
 use Rattle.species_ast.specs.Run.{inside, turns, step, first_frame, locals_at, locals_of, locals_in, source_context}
 use Rattle.species_ast.specs.Scope.Meanings.{is_among}
 use Rattle.species_ast.specs.Scope.WellMade.{Around, list_holds, made, made_at, made_loop, below, is_declared_once, outermost, IsWellMade}
 use Rattle.species_ast.proofs.Folds.{fold_stmt-If, fold_stmt-For, fold_stmt-Block, fold_loop-out}
-use Rattle.species_ast.proofs.Induction.{Each, each_all}
 use Rattle.species_ast.proofs.RunLaws.{locals-If, locals-Block}
 use Rattle.species_runs.specs.Every.{Anything}
 use Rattle.species_runs.specs.Scopes.{HasOnly, AreApart, FitIn}
 use Rattle.species_runs.proofs.EveryLaws.{every_ended}
 use Rattle.species_runs.proofs.FrameLaws.{AllMay, all_in, leaves_frame}
 use Rattle.species_runs.proofs.ScopeLaws.{or_false, both_false, and_true, never_both, out_both, body_keeps_scope, keeps_scope, turns_keep_scope, same_declares}
-use Rattle.species_nests.specs.Arrivals.{header, turn_of, Running, Comes, here, in_turn, in_body, in_otherwise, in_block, ComesIn, first, later, ComesTo}
+use Rattle.species_nests.specs.Arrivals.{turn_of, Running, Comes, here, in_turn, in_body, in_otherwise, in_block, ComesIn, first, later, ComesTo}
 
 -- ---- each local is declared once
 

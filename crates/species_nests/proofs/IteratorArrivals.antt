@@ -1,5 +1,5 @@
 -- The iterators of a running are values that the loops around it take: an induction over the loops around.
-use Rattle.std.proofs.Common.{◌≡◌, arith, refl, sym, subst, ℕ, suc, List, [], ◌∷◌, ◌++◌, length, ℤ}
+use Rattle.std.proofs.Common.{◌≡◌, sym, subst, ℕ, suc, List, [], ◌∷◌, ◌++◌, length, ℤ}
 use Rattle.std.specs.List.{Contains}
 use Rattle.species_ast.specs.declared.tree.Loop.{Loop, out-Loop}
 use Rattle.species_ast.specs.declared.tree.Stmt.{Stmt}

@@ -1,13 +1,13 @@
 -- The nest of a loop in a well made unit: its body fits where the loop is run, its headers touch no array, and its run is that of its
 -- iterations.
-use Rattle.std.proofs.Common.{◌≡◌, refl, ap, sym, ◌∙◌, subst, ℕ, zero, suc, List, [], ◌∷◌, ◌++◌, map, true, ◌&&◌, Option, Some, None}
+use Rattle.std.proofs.Common.{◌≡◌, refl, ap, sym, ◌∙◌, subst, ℕ, zero, suc, List, [], ◌∷◌, ◌++◌, map, true, Option, Some, None}
 use Rattle.species_ast.specs.declared.tree.Loop.{Loop, out-Loop, roll-Loop}
 use Rattle.species_ast.specs.declared.tree.Stmt.{Stmt}
 use Rattle.species_ast.specs.declared.tree.Stmt.TheVariants as stmt
 use Rattle.species_ast.specs.declared.tree.Unit.{Unit as Program}
 use Rattle.species_ast.specs.Accesses.{Joins, Cells, Ended, run, accesses}
 use Rattle.species_ast.specs.Evaluation.{Frame, Context}
-use Rattle.species_ast.specs.Run.{does_scope, locals_of, locals_in, source_context}
+use Rattle.species_ast.specs.Run.{does_scope, locals_of, source_context}
 use Rattle.species_ast.specs.Scope.WellMade.{Around, list_holds, made, made_at, made_loop, IsWellMade}
 use Rattle.species_ast.proofs.Folds.{fold_stmt-For, fold_stmt-Block, fold_loop-out}
 use Rattle.species_ast.proofs.Induction.{Each, each_all, stmt_ind}
@@ -20,7 +20,7 @@ use Rattle.species_nests.specs.Effects.{HasQuietHeader}
 use Rattle.species_nests.specs.Meetings.{running_traces}
 use Rattle.species_nests.specs.Nests.{Placed, sole_at, sole, only, nest_in, nest_of, frames, run_all, loops_at, loops_of}
 use Rattle.species_nests.proofs.ArrivalLaws.{running}
-use Rattle.species_nests.proofs.FitLaws.{FitsAt, RunningFits, running_fits, fit_body, among_front, locals_of_loop, deeper}
+use Rattle.species_nests.proofs.FitLaws.{RunningFits, running_fits, fit_body, among_front, locals_of_loop, deeper}
 use Rattle.species_nests.proofs.NestLaws.{under, no_loops, not_some, sole-For, sole-Block, joined, nest_in_has, body_loops}
 use Rattle.species_nests.proofs.QuietLaws.{QuietIn, made_quiet, list_quiet}
 use Rattle.species_nests.proofs.RunningLaws.{running_ran}

@@ -1,7 +1,6 @@
 -- A body that sets no local that is declared outside it, and adds atomically only to arrays that take it, does nothing that is
 -- forbidden to an iteration.
 use Rattle.std.proofs.Common.{◌≡◌, refl, ap, sym, ◌∙◌, subst, ℕ, List, [], ◌∷◌, ◌++◌, map, flat_map, Bool, true, false, ◌&&◌, ⊎_elim}
-use Rattle.std.specs.Prelude.{nat_eq}
 use Rattle.std.specs.List.{list_all}
 use Rattle.species_ast.specs.declared.tree.Expr.{Expr}
 use Rattle.species_ast.specs.declared.tree.Loop.{roll-Loop}

@@ -1,15 +1,11 @@
 -- A running is determined by its position and by the iterators from which it is run.
-use Rattle.std.proofs.Common.{◌≡◌, arith, refl, ap, sym, ◌∙◌, subst, ℕ, zero, suc, ◌+◌, List, [], ◌∷◌, ◌++◌, length, ℤ, pos, negsuc, ◌+ℤ◌, ◌≤ℤ◌, true, false, ◌⊎◌, inl, inr, ⊎_elim}
-use Rattle.std.specs.List.{Contains}
+use Rattle.std.proofs.Common.{◌≡◌, arith, ap, sym, ◌∙◌, subst, ℕ, suc, ◌+◌, List, [], ◌∷◌, ◌++◌, length, ℤ, true, false, ⊎_elim}
 use Rattle.std.proofs.lemmas.List.{append-nil, append_assoc}
-use Rattle.std.proofs.lemmas.Int.{ints}
-use Rattle.species_ast.specs.declared.tree.Test.{Test}
-use Rattle.species_ast.specs.declared.tree.Test.TheVariants.{Lt, Le, Gt, Ge}
 use Rattle.species_ast.specs.declared.tree.Loop.{Loop, out-Loop}
 use Rattle.species_ast.specs.declared.tree.Stmt.{Stmt}
 use Rattle.species_ast.specs.declared.tree.Stmt.TheVariants as stmt
 use Rattle.species_ast.specs.Operators.{is_true}
-use Rattle.species_ast.specs.Accesses.{Joins, Cells, Outcome, Ended, run}
+use Rattle.species_ast.specs.Accesses.{Joins, Cells, Ended, run}
 use Rattle.species_ast.specs.Evaluation.{Frame, Context, sense}
 use Rattle.species_ast.specs.Run.{inside, turns, spot}
 use Rattle.species_nests.specs.Arrivals.{header, turn_of, Running, Comes, here, in_turn, in_body, in_otherwise, in_block, ComesIn, first, later}
