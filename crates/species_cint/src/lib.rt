@@ -37,7 +37,8 @@ fn signed(kind: Kind) -> bool
     }
 }
 
-fn kind_of(v: Value) -> Kind
+/// The kind of a value.
+pub fn kind_of(v: Value) -> Kind
     ensures { result ≡ kind_of v }
 {
     match v {
@@ -93,6 +94,13 @@ fn reduced(kind: Kind, n: Word) -> Word
     } else {
         rest
     }
+}
+
+/// The value of a kind whose number is equal to `n` modulo 2 to the power of the width.
+pub fn wrapped(kind: Kind, n: i128) -> Value
+    ensures { result ≡ in_kind kind (operators.reduced kind n) }
+{
+    value(kind, reduced(kind, n))
 }
 
 /// A value converted to a kind: the value of the kind whose number is equal modulo 2 to the power
@@ -260,7 +268,7 @@ fn complement(kind: Kind, n: Word) -> Value
 }
 
 /// The kind to which the two sides of an operator are converted: the later of theirs in the order.
-fn joint(a: Kind, b: Kind) -> Kind
+pub fn joint(a: Kind, b: Kind) -> Kind
     ensures { result ≡ operators.joint a b }
 {
     if order(a) < order(b) {
@@ -270,7 +278,8 @@ fn joint(a: Kind, b: Kind) -> Kind
     }
 }
 
-fn is_shift(op: Binary) -> bool
+/// Whether the operator is `<<` or `>>`.
+pub fn is_shift(op: Binary) -> bool
     ensures { result ≡ operators.is_shift op }
 {
     matches!(op, Binary::Shl | Binary::Shr)
