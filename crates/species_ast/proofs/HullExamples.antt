@@ -1,18 +1,17 @@
 -- Ranges of loops at the edges: far ends that move, empty loops, triangles, and the limits on ends and magnitudes.
-use Rattle.std.proofs.Common.{◌≡◌, refl, ℕ, List, [], ◌∷◌, Some, None, Bool, true, false, ◌&&◌, not, ℤ, pos, negsuc, neg_ℤ}
+use Rattle.std.proofs.Common.{◌≡◌, refl, [], ◌∷◌, Some, None, true, false, pos, negsuc}
 use Rattle.std.specs.Prelude.{codes}
-use Rattle.species_ast.specs.declared.tree.Value.TheVariants.{Int}
 use Rattle.species_ast.specs.declared.tree.Binary.TheVariants.{Mul}
 use Rattle.species_ast.specs.declared.tree.Test.{Test}
-use Rattle.species_ast.specs.declared.tree.Test.TheVariants.{Lt, Le, Gt, Ge}
+use Rattle.species_ast.specs.declared.tree.Test.TheVariants.{Lt, Le}
 use Rattle.species_ast.specs.declared.tree.Mark.TheVariants.{Plain}
 use Rattle.species_ast.specs.declared.tree.Expr.{Expr}
 use Rattle.species_ast.specs.declared.tree.Expr.TheVariants as expr
 use Rattle.species_ast.specs.declared.tree.Stmt.{Stmt}
 use Rattle.species_ast.specs.declared.tree.Loop.{Loop}
 use Rattle.species_ast.specs.declared.tree.Stmt.TheOpen.{Loop-F}
-use Rattle.species_ast.specs.Scope.Hulls.{Range, is_empty, has_empty, fixed_range, range_between, range_of, passes_hull}
-use Rattle.species_ast.specs.Scope.Forms.{Form, constant_form, iterator_form}
+use Rattle.species_ast.specs.Scope.Hulls.{Range, fixed_range, range_between, passes_hull}
+use Rattle.species_ast.specs.Scope.Forms.{constant_form, iterator_form}
 use Rattle.species_ast.specs.Scope.Magnitudes.{passes_bound}
 use Rattle.species_ast.proofs.ScopeParts.{int, folded}
 

@@ -1,9 +1,9 @@
 -- The extremes of a form over ranges are its least and its greatest value over all points of them.
-use Rattle.std.proofs.Common.{◌≡◌, refl, ap, sym, ◌∙◌, arith, ℕ, zero, suc, Bool, true, false, ◌||◌, List, [], ◌∷◌, map, ℤ, pos, negsuc, ◌+ℤ◌, ◌*ℤ◌, ◌≤ℤ◌}
+use Rattle.std.proofs.Common.{◌≡◌, refl, ap, arith, ℕ, zero, suc, Bool, true, false, ◌||◌, List, [], ◌∷◌, map, ℤ, pos, negsuc, ◌+ℤ◌, ◌*ℤ◌, ◌≤ℤ◌}
 use Rattle.std.proofs.lemmas.Int.{ints}
 use Rattle.std.proofs.Math.IntN.{suc_ℤ-*ℤ, pred_ℤ-*ℤ, zero-*ℤ}
 use Rattle.species_ast.specs.Scope.Forms.{Form, sum_of, form_value}
-use Rattle.species_ast.specs.Scope.Hulls.{Range, is_empty, has_empty, AreIn, least_product, greatest_product, least_sum, greatest_sum, least_of, greatest_of}
+use Rattle.species_ast.specs.Scope.Hulls.{Range, is_empty, has_empty, AreIn, least_sum, greatest_sum, least_of, greatest_of}
 
 mul_up : (n : ℕ) (x y : ℤ) → x ≤ℤ y → (pos n *ℤ x) ≤ℤ (pos n *ℤ y)
 mul_up zero x y h = omega (arith, ints, zero-*ℤ x, zero-*ℤ y)

@@ -1,4 +1,4 @@
--- The values that an iterator takes: start, start plus step and so on, and those among them that come before the first that
+-- The values of a loop's iterator: the start and each number a step further, and those among them before the first that
 -- fails the test.
 use Rattle.std.proofs.Common.{◌≡◌, refl, ap, ◌∙◌, arith, ℕ, zero, suc, ◌+◌, ◌*◌, ◌/◌, ◌<◌, ◌≤◌, Some, ℤ, pos, negsuc, neg_ℤ, ◌+ℤ◌, ◌-ℤ◌, ◌*ℤ◌, ◌<ℤ◌, ◌≤ℤ◌}
 use Rattle.std.specs.Prelude.{slice_get}

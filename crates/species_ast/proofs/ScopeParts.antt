@@ -1,6 +1,6 @@
 -- Parts of programs of which is known what they become, for worked examples: each is a piece of the raw tree, what it becomes,
 -- and that it does.
-use Rattle.std.proofs.Common.{◌≡◌, ◌∙◌, ap, refl, ℕ, ◌+◌, List, [], ◌∷◌, map, flat_map, Option, Some, None, option_map, Bool, true, false, pos, negsuc, neg_ℤ, Result, Ok, Err}
+use Rattle.std.proofs.Common.{◌≡◌, ◌∙◌, ap, refl, ℕ, ◌+◌, List, [], ◌∷◌, map, flat_map, Option, Some, None, option_map, Bool, true, false, pos, negsuc, neg_ℤ, Result, Err}
 use Rattle.std.specs.Prelude.{codes}
 use Rattle.std.specs.List.{filter_map}
 use Prim.Native.String.{String}

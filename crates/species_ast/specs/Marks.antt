@@ -38,7 +38,7 @@ unmarked_stmt = fold-Stmt Bool Bool (test_step not) (test_layer (λ l. is_plain 
 abbrev pub without_lines_stmt : Stmt → Bool
 without_lines_stmt = fold-Stmt Bool Bool (test_step (λ atomic. true)) (test_layer (λ l. is_none l.line))
 
--- the unit has no parallel mark and no atomic addition
+-- no loop of the unit has a parallel mark, and none of its additions is atomic
 abbrev pub IsUnmarked : Unit → Type 0
 IsUnmarked u = IsTrue (list_all unmarked_stmt u.body)
 

@@ -80,12 +80,12 @@ turns_in (pos d) (pos zero) = 0
 turns_in (pos d) (pos (suc p)) = (d + p) / suc p
 turns_in d p = 0
 
--- start, start plus step and so on, this many numbers
+-- this many numbers, of which the first is the start and each other is a step further
 abbrev pub counted : ℕ → ℤ → ℤ → List ℤ
 counted zero start step = []
 counted (suc n) start step = start ∷ counted n (start +ℤ step) step
 
--- the values that an iterator takes: start, start plus step and so on while the test holds
+-- the values of a loop's iterator: from the start on, each a step further, as long as they pass the test
 abbrev pub iterator_values : Test → ℤ → ℤ → ℤ → List ℤ
 iterator_values test start limit step = counted (turns_in (distance test start limit) (pace test step)) start step
 

@@ -1,3 +1,5 @@
+//! What an iteration of a nest does, one step at a time.
+
 use crate::tree::Value;
 
 /// What one iteration of a nest does next. An element is named by its array's number and its place

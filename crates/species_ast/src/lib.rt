@@ -36,7 +36,7 @@ pub use trap::{Trap, Undefined};
 pub use tree::{
     Array, Binary, Expr, Kind, LocalInfo, Loop, Mark, Schedule, Stmt, Test, Unary, Unit, Value,
 };
-pub use words::{MOST_BYTES, MOST_LOAD, is_keyword, punctuator_len};
+pub use words::{MOST_BYTES, MOST_LOAD, is_keyword, is_one_of, punctuator_len};
 
 #[cfg(test)]
 mod tests;

@@ -1,6 +1,6 @@
 //! The tree of a program as its grammar derives it, before any name has a meaning.
 //!
-//! Each type has one variant for each alternative of the grammar, and keeps the place of what it
+//! Each type has a variant for every alternative that the grammar has, and keeps the place of what it
 //! stands for: the byte offset of the first token in the program. `static`, and `void` between the
 //! brackets of the function, are not kept.
 ghost use Rattle.std.specs.Prelude.{◌≡◌};
@@ -9,7 +9,7 @@ use crate::tree::{Binary, Kind, Schedule, Test, Value};
 use sqlite_items::{Boxed, Items};
 use std::marker::Model;
 
-/// A name where it stands in a program. Of an `#include` the text is the header with its brackets
+/// A name where it stands in a program. Of an `#include` the text is the header and its brackets
 /// or quotes, and of a species line the text after the word; the place of both is that of the `#`.
 #[derive(Drop)]
 pub struct RawName<'a> {

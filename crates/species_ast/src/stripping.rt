@@ -1,5 +1,9 @@
+//! Kernels without their marks.
+
 ghost use Rattle.std.specs.Prelude.{◌≡◌, IfOk, false, map};
 ghost use Rattle.species_ast.specs.Marks.{IsUnmarked, HasNoLine};
+ghost use Rattle.species_ast.specs.Scope.References.{HasReadSize};
+ghost use Rattle.species_ast.specs.Scope.WellMade.{IsWellMade};
 ghost use Rattle.species_ast.specs.Strip.{strip_of, strip_stmt, strip_loop};
 
 use crate::copies::{copy_arrays, copy_expr, copy_exprs, copy_init, copy_line, copy_locals};
@@ -9,11 +13,14 @@ use sqlite_items::Items;
 use std::alloc::Global;
 
 /// A copy of the unit with plain marks and no atomic addition. Its species lines stay where
-/// `keep_lines` is true, and are left out where it is false.
+/// `keep_lines` is true, and are left out where it is false. A well made unit stays well made, and
+/// keeps the size of one that is read.
 pub fn strip(alloc: Global, unit: &Unit, keep_lines: bool) -> Result<Unit, OutOfMemory>
     ensures value { IfOk result (λ stripped. stripped ≡ strip_of keep_lines unit.now) }
     ensures unmarked { IfOk result IsUnmarked }
     ensures without_lines { keep_lines ≡ false → IfOk result HasNoLine }
+    ensures well_made { IsWellMade unit.now → IfOk result IsWellMade }
+    ensures size { HasReadSize unit.now → IfOk result HasReadSize }
 {
     let includes = unit.includes.copy(alloc)?;
     let arrays = copy_arrays(alloc, unit.arrays.as_slice())?;

@@ -1,3 +1,5 @@
+//! Calls that succeed with ample memory.
+
 use crate::{
     Array, Binary, Dims, Expr, Includes, Kind, LineText, LocalInfo, Loop, Mark, Name, OutOfMemory,
     Schedule, Stmt, Test, Unit, Value, copy, strip,

@@ -1,3 +1,5 @@
+//! Names, sizes, headers and the texts of lines: small types that contracts see as lists.
+
 ghost use Rattle.std.specs.Prelude.{◌≡◌, ◌↔◌, ◌++◌, [], ◌∷◌, IfOk, OnOk, OnErr, IsTrue};
 
 use crate::memory::OutOfMemory;

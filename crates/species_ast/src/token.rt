@@ -1,3 +1,5 @@
+//! What tokens are, and why a text has none.
+
 use crate::tree::{Schedule, Value};
 
 /// What a token is. A directive that the compiler reads is one token, as an `#include` line or a

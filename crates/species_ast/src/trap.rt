@@ -1,3 +1,5 @@
+//! Why an operator has no value, and why a run is undefined.
+
 /// Why an operator has no value (C17 6.5).
 #[derive(Clone, Copy, Debug, PartialEq, Eq)]
 pub enum Undefined {

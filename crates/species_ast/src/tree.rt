@@ -1,10 +1,12 @@
+//! The syntax tree of a kernel.
+
 use crate::text::{Dims, Includes, LineText, Name};
 use sqlite_items::{Boxed, Items};
 
 /// A program: its declarations and the body of its one function.
 ///
-/// Arrays and locals are named by their number, from 0 in the order of the text. The iterator of a
-/// loop is named by its level: 0 for the outermost loop around a place, then 1, and so on.
+/// Arrays and locals go by their number, from 0 in the order of the text. An
+/// iterator goes by the level of its loop: 0 for the outermost around a place, then 1, and so on.
 #[derive(Drop)]
 pub struct Unit {
     pub includes: Includes,

@@ -63,7 +63,8 @@ const PUNCTUATORS: [&str; 43] = [
     "*", "/", "%", "<", ">", "!", "~", "&", "|", "^",
 ];
 
-fn is_one_of(words: &[&str], word: &[u8]) -> bool
+/// Whether a word is one of these.
+pub fn is_one_of(words: &[&str], word: &[u8]) -> bool
     ensures { result ≡ list_any (bytes_eq word.now) (map (λ w. w.now) words.now) }
 {
     for other in words {

@@ -161,25 +161,6 @@ bits_below kind.Unsigned n = omega (arith, residue_below n (2 ^ 32) (omega arith
 bits_below kind.Long n = residue_below n (2 ^ 64) (omega arith)
 bits_below kind.UnsignedLong n = residue_below n (2 ^ 64) (omega arith)
 
--- the other bits, as the words compute them
-pub complement_is : (k : Kind) (n : ℤ) (m b : ℤ) → m ≡ pos (2 ^ bits_of k) → b ≡ pos (bits_in k n)
-    → to_z w128 (of_z w128 (to_z w128 (of_z w128 (m -ℤ pos 1)) -ℤ b)) ≡ pos (2 ^ bits_of k - 1 - bits_in k n)
-complement_is k n m b is_m is_b = go (2 ^ bits_of k) (bits_in k n) (width k) (bits_in_width k n) is_m is_b
-  where
-    width : (k : Kind) → 2 ^ bits_of k ≤ 2 ^ 64
-    width kind.Int = omega arith
-    width kind.Unsigned = omega arith
-    width kind.Long = omega arith
-    width kind.UnsignedLong = omega arith
-    bits_in_width : (k : Kind) (n : ℤ) → bits_in k n < 2 ^ bits_of k
-    bits_in_width kind.Int n = residue_below n (2 ^ 32) (omega arith)
-    bits_in_width kind.Unsigned n = residue_below n (2 ^ 32) (omega arith)
-    bits_in_width kind.Long n = residue_below n (2 ^ 64) (omega arith)
-    bits_in_width kind.UnsignedLong n = residue_below n (2 ^ 64) (omega arith)
-    go : (w x : ℕ) → w ≤ 2 ^ 64 → x < w → m ≡ pos w → b ≡ pos x
-        → to_z w128 (of_z w128 (to_z w128 (of_z w128 (m -ℤ pos 1)) -ℤ b)) ≡ pos (w - 1 - x)
-    go w x small below e f = omega (arith, ints, small, below, e, f)
-
 pub bits_are_natural : (f : ℕ → ℕ → ℕ) → ((m n : ℕ) → m < 2 ^ 64 → n < 2 ^ 64 → f m n < 2 ^ 64) → (k : Kind) (a b x y : ℤ)
     → x ≡ pos (bits_in k a) → y ≡ pos (bits_in k b) → pos 0 ≤ℤ to_z w128 (f (of_z w128 x) (of_z w128 y))
 bits_are_natural f below k a b x y is_x is_y =

@@ -271,11 +271,7 @@ fn complement(kind: Kind, n: Word) -> Value
 pub fn joint(a: Kind, b: Kind) -> Kind
     ensures { result ≡ operators.joint a b }
 {
-    if order(a) < order(b) {
-        b
-    } else {
-        a
-    }
+    if order(a) < order(b) { b } else { a }
 }
 
 /// Whether the operator is `<<` or `>>`.

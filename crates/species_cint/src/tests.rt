@@ -3,7 +3,7 @@ use super::*;
 use species_ast::Binary::*;
 use species_ast::Unary::{LogNot, Neg, Not};
 use species_ast::Undefined::{BadShift, DivZero, Overflow};
-use species_ast::Value::{Int, Unsigned};
+use species_ast::Value::{Int, Long, Unsigned, UnsignedLong};
 use std::process::Abort;
 
 const MUL: [(Value, Value, Result<Value, Undefined>); 11] = [
@@ -276,4 +276,272 @@ fn edge_values(rt: HostRuntime) {
     }
     assert_eq!(rt; number(Int(-5)), -5);
     assert_eq!(rt; number(Unsigned(4294967295)), 4294967295);
+}
+
+// ---- 64 bits
+
+const LONG_MUL: [(Value, Value, Result<Value, Undefined>); 9] = [
+    (
+        Long(3037000499),
+        Long(3037000499),
+        Ok(Long(9223372030926249001)),
+    ),
+    (Long(3037000500), Long(3037000500), Err(Overflow)),
+    (
+        Int(2147483647),
+        Long(2147483647),
+        Ok(Long(4611686014132420609)),
+    ),
+    (Int(2147483647), Int(2147483647), Err(Overflow)),
+    (Long(i64::MIN), Int(-1), Err(Overflow)),
+    (Unsigned(4294967295), Long(2), Ok(Long(8589934590))),
+    (
+        UnsignedLong(u64::MAX),
+        UnsignedLong(u64::MAX),
+        Ok(UnsignedLong(1)),
+    ),
+    (
+        UnsignedLong(4294967296),
+        UnsignedLong(4294967296),
+        Ok(UnsignedLong(0)),
+    ),
+    (
+        Int(-1),
+        UnsignedLong(2),
+        Ok(UnsignedLong(18446744073709551614)),
+    ),
+];
+
+const LONG_DIV: [(Value, Value, Result<Value, Undefined>); 9] = [
+    (Long(i64::MIN), Long(-1), Err(Overflow)),
+    (Long(i64::MIN), Int(1), Ok(Long(i64::MIN))),
+    (Long(i64::MIN), Unsigned(2), Ok(Long(-4611686018427387904))),
+    (Long(-7), Int(2), Ok(Long(-3))),
+    (Int(i32::MIN), Long(-1), Ok(Long(2147483648))),
+    (Unsigned(4294967295), Long(-1), Ok(Long(-4294967295))),
+    (UnsignedLong(u64::MAX), Int(-1), Ok(UnsignedLong(1))),
+    (Long(i64::MIN), UnsignedLong(u64::MAX), Ok(UnsignedLong(0))),
+    (Long(1), UnsignedLong(0), Err(DivZero)),
+];
+
+const LONG_REM: [(Value, Value, Result<Value, Undefined>); 6] = [
+    (Long(i64::MIN), Int(-1), Err(Overflow)),
+    (Long(i64::MIN), Long(3), Ok(Long(-2))),
+    (Long(-7), Unsigned(4), Ok(Long(-3))),
+    (Int(-7), UnsignedLong(4), Ok(UnsignedLong(1))),
+    (UnsignedLong(u64::MAX), Int(10), Ok(UnsignedLong(5))),
+    (Unsigned(7), Long(0), Err(DivZero)),
+];
+
+const LONG_ADD: [(Value, Value, Result<Value, Undefined>); 9] = [
+    (Long(i64::MAX), Int(1), Err(Overflow)),
+    (Long(i64::MAX), Long(i64::MIN), Ok(Long(-1))),
+    (Unsigned(4294967295), Long(1), Ok(Long(4294967296))),
+    (
+        UnsignedLong(0),
+        UnsignedLong(u64::MAX),
+        Ok(UnsignedLong(u64::MAX)),
+    ),
+    (UnsignedLong(u64::MAX), UnsignedLong(2), Ok(UnsignedLong(1))),
+    (UnsignedLong(1), UnsignedLong(3), Ok(UnsignedLong(4))),
+    (UnsignedLong(0), Int(-1), Ok(UnsignedLong(u64::MAX))),
+    (UnsignedLong(u64::MAX), Unsigned(1), Ok(UnsignedLong(0))),
+    (
+        UnsignedLong(u64::MAX),
+        Long(i64::MIN),
+        Ok(UnsignedLong(9223372036854775807)),
+    ),
+];
+
+const LONG_SUB: [(Value, Value, Result<Value, Undefined>); 5] = [
+    (Long(i64::MIN), Int(1), Err(Overflow)),
+    (Long(0), Long(i64::MIN), Err(Overflow)),
+    (Long(-1), Long(i64::MAX), Ok(Long(i64::MIN))),
+    (Unsigned(1), Long(2), Ok(Long(-1))),
+    (
+        Int(3),
+        UnsignedLong(5),
+        Ok(UnsignedLong(18446744073709551614)),
+    ),
+];
+
+const LONG_SHL: [(Value, Value, Result<Value, Undefined>); 12] = [
+    (Long(1), Int(62), Ok(Long(4611686018427387904))),
+    (Long(1), Int(63), Err(Overflow)),
+    (Long(1), Int(64), Err(BadShift)),
+    (Long(0), Int(63), Ok(Long(0))),
+    (Long(-1), Int(0), Err(BadShift)),
+    (Long(1), Long(i64::MIN), Err(BadShift)),
+    (
+        UnsignedLong(1),
+        Int(63),
+        Ok(UnsignedLong(9223372036854775808)),
+    ),
+    (
+        UnsignedLong(3),
+        Long(63),
+        Ok(UnsignedLong(9223372036854775808)),
+    ),
+    (UnsignedLong(1), Unsigned(64), Err(BadShift)),
+    (Int(1), Long(32), Err(BadShift)),
+    (Int(1), UnsignedLong(u64::MAX), Err(BadShift)),
+    (Unsigned(1), UnsignedLong(31), Ok(Unsigned(2147483648))),
+];
+
+const LONG_SHR: [(Value, Value, Result<Value, Undefined>); 8] = [
+    (Long(i64::MIN), Int(63), Ok(Long(-1))),
+    (Long(i64::MAX), Int(63), Ok(Long(0))),
+    (Long(-5), UnsignedLong(1), Ok(Long(-3))),
+    (Long(-1), Int(64), Err(BadShift)),
+    (UnsignedLong(u64::MAX), Int(63), Ok(UnsignedLong(1))),
+    (
+        UnsignedLong(9223372036854775808),
+        Long(62),
+        Ok(UnsignedLong(2)),
+    ),
+    (UnsignedLong(u64::MAX), UnsignedLong(64), Err(BadShift)),
+    (Int(-1), Long(63), Err(BadShift)),
+];
+
+const LONG_LT: [(Value, Value, Result<Value, Undefined>); 5] = [
+    (Int(-1), Unsigned(1), Ok(Int(0))),
+    (Long(-1), Unsigned(1), Ok(Int(1))),
+    (Long(-1), UnsignedLong(1), Ok(Int(0))),
+    (Unsigned(4294967295), Long(4294967296), Ok(Int(1))),
+    (UnsignedLong(u64::MAX), Int(-1), Ok(Int(0))),
+];
+
+const LONG_LE: [(Value, Value, Result<Value, Undefined>); 3] = [
+    (UnsignedLong(u64::MAX), Int(-1), Ok(Int(1))),
+    (Long(i64::MAX), Long(i64::MIN), Ok(Int(0))),
+    (Long(-1), Unsigned(0), Ok(Int(1))),
+];
+
+const LONG_GT: [(Value, Value, Result<Value, Undefined>); 3] = [
+    (Long(-1), UnsignedLong(18446744073709551614), Ok(Int(1))),
+    (Unsigned(4294967295), Long(-1), Ok(Int(1))),
+    (Int(0), Long(i64::MAX), Ok(Int(0))),
+];
+
+const LONG_GE: [(Value, Value, Result<Value, Undefined>); 3] = [
+    (
+        Long(i64::MIN),
+        UnsignedLong(9223372036854775808),
+        Ok(Int(1)),
+    ),
+    (Long(-1), Unsigned(0), Ok(Int(0))),
+    (UnsignedLong(4294967296), Unsigned(4294967295), Ok(Int(1))),
+];
+
+const LONG_EQ: [(Value, Value, Result<Value, Undefined>); 3] = [
+    (Long(-1), UnsignedLong(u64::MAX), Ok(Int(1))),
+    (Long(-1), Unsigned(4294967295), Ok(Int(0))),
+    (Long(4294967295), Unsigned(4294967295), Ok(Int(1))),
+];
+
+const LONG_NE: [(Value, Value, Result<Value, Undefined>); 3] = [
+    (Int(-1), UnsignedLong(u64::MAX), Ok(Int(0))),
+    (Int(-1), UnsignedLong(4294967295), Ok(Int(1))),
+    (Long(0), Unsigned(0), Ok(Int(0))),
+];
+
+const LONG_BITAND: [(Value, Value, Result<Value, Undefined>); 3] = [
+    (Int(-1), UnsignedLong(u64::MAX), Ok(UnsignedLong(u64::MAX))),
+    (Long(-1), Unsigned(4294967295), Ok(Long(4294967295))),
+    (Long(i64::MIN), Long(-1), Ok(Long(i64::MIN))),
+];
+
+const LONG_BITXOR: [(Value, Value, Result<Value, Undefined>); 3] = [
+    (Long(-1), Int(5), Ok(Long(-6))),
+    (Long(i64::MIN), Long(i64::MAX), Ok(Long(-1))),
+    (UnsignedLong(u64::MAX), Int(-1), Ok(UnsignedLong(0))),
+];
+
+const LONG_BITOR: [(Value, Value, Result<Value, Undefined>); 3] = [
+    (
+        Unsigned(4294967295),
+        Long(i64::MIN),
+        Ok(Long(-9223372032559808513)),
+    ),
+    (Int(-2), UnsignedLong(1), Ok(UnsignedLong(u64::MAX))),
+    (
+        Long(i64::MIN),
+        UnsignedLong(1),
+        Ok(UnsignedLong(9223372036854775809)),
+    ),
+];
+
+const LONG_UNARY: [(Unary, Value, Result<Value, Undefined>); 11] = [
+    (Neg, Long(i64::MIN), Err(Overflow)),
+    (Neg, Long(i64::MAX), Ok(Long(-9223372036854775807))),
+    (Neg, UnsignedLong(1), Ok(UnsignedLong(u64::MAX))),
+    (
+        Neg,
+        UnsignedLong(9223372036854775808),
+        Ok(UnsignedLong(9223372036854775808)),
+    ),
+    (Not, Long(0), Ok(Long(-1))),
+    (Not, Long(i64::MAX), Ok(Long(i64::MIN))),
+    (Not, UnsignedLong(0), Ok(UnsignedLong(u64::MAX))),
+    (
+        Not,
+        UnsignedLong(4294967295),
+        Ok(UnsignedLong(18446744069414584320)),
+    ),
+    (LogNot, Long(i64::MIN), Ok(Int(0))),
+    (LogNot, UnsignedLong(0), Ok(Int(1))),
+    (LogNot, UnsignedLong(4294967296), Ok(Int(0))),
+];
+
+const LONG_CONVERSIONS: [(Value, Kind, Value); 10] = [
+    (Int(-1), Kind::UnsignedLong, UnsignedLong(u64::MAX)),
+    (
+        UnsignedLong(9223372036854775808),
+        Kind::Long,
+        Long(i64::MIN),
+    ),
+    (UnsignedLong(u64::MAX), Kind::Long, Long(-1)),
+    (UnsignedLong(u64::MAX), Kind::Int, Int(-1)),
+    (Unsigned(4294967295), Kind::Long, Long(4294967295)),
+    (Long(2147483648), Kind::Int, Int(i32::MIN)),
+    (Long(4294967296), Kind::Int, Int(0)),
+    (Long(-1), Kind::Unsigned, Unsigned(4294967295)),
+    (
+        Long(i64::MIN),
+        Kind::UnsignedLong,
+        UnsignedLong(9223372036854775808),
+    ),
+    (
+        UnsignedLong(18446744069414584321),
+        Kind::Unsigned,
+        Unsigned(1),
+    ),
+];
+
+#[test]
+fn edge_values_of_64_bits(rt: HostRuntime) {
+    check(&rt, Mul, &LONG_MUL);
+    check(&rt, Div, &LONG_DIV);
+    check(&rt, Rem, &LONG_REM);
+    check(&rt, Add, &LONG_ADD);
+    check(&rt, Sub, &LONG_SUB);
+    check(&rt, Shl, &LONG_SHL);
+    check(&rt, Shr, &LONG_SHR);
+    check(&rt, Lt, &LONG_LT);
+    check(&rt, Le, &LONG_LE);
+    check(&rt, Gt, &LONG_GT);
+    check(&rt, Ge, &LONG_GE);
+    check(&rt, Eq, &LONG_EQ);
+    check(&rt, Ne, &LONG_NE);
+    check(&rt, BitAnd, &LONG_BITAND);
+    check(&rt, BitXor, &LONG_BITXOR);
+    check(&rt, BitOr, &LONG_BITOR);
+    for (op, v, want) in LONG_UNARY {
+        assert_eq!(rt; unary(op, v), want, "{op:?} of {v:?}");
+    }
+    for (v, kind, want) in LONG_CONVERSIONS {
+        assert_eq!(rt; convert(v, kind), want, "{v:?} to {kind:?}");
+    }
+    assert_eq!(rt; number(Long(i64::MIN)), -9223372036854775808);
+    assert_eq!(rt; number(UnsignedLong(u64::MAX)), 18446744073709551615);
 }

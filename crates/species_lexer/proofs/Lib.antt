@@ -8,3 +8,6 @@ pub mod Stops
 pub mod PieceLemmas
 pub mod Runs
 pub mod Digits
+pub mod EntryLemmas
+pub mod NameLemmas
+pub mod Feeding

@@ -19,11 +19,11 @@ use Rattle.species_lexer.proofs.Plain.{plain_piece}
 abbrev Fits : ℕ → List ℕ → Type 0
 Fits n bytes = (0 < n) × (n ≤ length bytes)
 
-scope_lexeme : (ds : List Definition) (n : ℕ) (text : List ℕ) (k : TokenKind) → in_scope ds (Lexeme n text k) ≡ Lexeme n text (kind_of (look_up ds text) k)
+pub scope_lexeme : (ds : List Definition) (n : ℕ) (text : List ℕ) (k : TokenKind) → in_scope ds (Lexeme n text k) ≡ Lexeme n text (kind_of (look_up ds text) k)
 scope_lexeme ds n text kind.Name = refl
 scope_lexeme ds n text _ = refl
 
-plain_kind : (literal : Option Value) (k : TokenKind) (text : List ℕ) (ds : List Definition) → is_definition k ≡ false → defined_by text (kind_of literal k) ds ≡ ds
+pub plain_kind : (literal : Option Value) (k : TokenKind) (text : List ℕ) (ds : List Definition) → is_definition k ≡ false → defined_by text (kind_of literal k) ds ≡ ds
 plain_kind None kind.Name text ds h = refl
 plain_kind (Some v) kind.Name text ds h = refl
 plain_kind literal (kind.Define v) text ds h = cc

@@ -6,3 +6,7 @@ pub mod Pieces
 pub mod Cursor
 pub mod Tokens
 pub mod Found
+pub mod Entries
+pub mod Fed
+pub mod Cut
+pub mod SeenCut

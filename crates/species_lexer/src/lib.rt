@@ -3,21 +3,27 @@
 
 mod characters;
 mod comments;
+mod cut;
 mod directives;
 mod fault;
 mod form;
+mod names;
 mod numbers;
 mod parts;
 mod piece;
 mod pieces;
 mod pragmas;
+mod refusal;
 mod scan;
 mod slices;
+mod table;
 mod token;
 mod tokens;
 mod words;
 
+pub use refusal::CutRefusal;
 pub use species_ast::{LexRefusal, TokenKind};
+pub use table::{TableTokens, TokenTable};
 pub use token::Token;
 pub use tokens::Tokens;
 

@@ -19,7 +19,7 @@ fn has_line_feed(bytes: &[u8]) -> bool
 }
 
 /// Whether only blanks and comments stand on the line behind these, which are one.
-fn head_behind(is_head: bool, space: &[u8]) -> bool
+pub(crate) fn head_behind(is_head: bool, space: &[u8]) -> bool
     ensures { result ≡ head_behind is_head space.now }
 {
     if is_head { true } else { has_line_feed(space) }
@@ -73,7 +73,7 @@ fn past_spaces<'a>(text: &'a [u8], start: usize, starts_line: bool) -> Stop<'a>
 }
 
 /// The length of a piece, and 0 for a refusal and the end.
-fn length_in(piece: Option<Piece>) -> usize
+pub(crate) fn length_in(piece: Option<Piece>) -> usize
     ensures { result ≡ length_in piece.entry }
 {
     match piece {

@@ -78,7 +78,7 @@ shifts : answers (
     Ok (int 1073741824) ∷ Err Overflow ∷ Err BadShift ∷ Ok (int 0) ∷ Ok (unsigned 2147483648) ∷ []
 shifts = refl
 
--- a shift has the kind of its left side and takes the number of its right side; a bad count is found first
+-- a shift is of its left side's kind, and the right side counts by its number; a bad count is found first
 shift_sides : answers (
     (Shl, int 1, unsigned 4) ∷ (Shl, unsigned 1, minus 1) ∷ (Shr, minus 8, unsigned 1) ∷ (Shr, unsigned 8, unsigned 32) ∷
     (Shl, minus 1, int 0) ∷ (Shl, minus 1, int 40) ∷ (Shr, minus 1, minus 1) ∷ [])

@@ -1,6 +1,5 @@
 -- Expressions (C17 6.5): which lists of tokens derive which expression.
 use Rattle.std.specs.Prelude.{ℕ, suc, Bool, List, [], ◌∷◌, ◌++◌}
-use Prim.Native.String.{String}
 use Rattle.species_ast.specs.Token.{Token}
 use Rattle.species_ast.specs.Spelling.{Spelling}
 use Rattle.species_ast.specs.Grammar.Words.{sign, punctuator, keyword, name, number, Optional}

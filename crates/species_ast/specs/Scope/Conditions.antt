@@ -146,7 +146,7 @@ past_hull u = loops_where (λ x. not x.stands.passed && passes_hull x.stands.aro
 abbrev pub past_bound : Unit → List ℕ
 past_bound u = loops_where (λ x. not x.stands.passed && passes_bound x.stands.around.path (out-Loop x.head)) u
 
--- BadMark: a parallel mark stands inside a parallel nest or does not fit
+-- BadMark: a mark does not fit, or it is a parallel one within a parallel nest
 abbrev pub bad_mark : Unit → List ℕ
 bad_mark u = loops_where (λ x. is_bad_mark x.stands.around.in_nest x.stands.around.level (out-Loop x.head).mark (front_of x.head)) u
 

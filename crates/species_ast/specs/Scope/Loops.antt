@@ -1,5 +1,5 @@
 -- The loops of a unit, each where it stands.
-use Rattle.std.specs.Prelude.{ℕ, suc, Bool, false, ◌||◌, nat_le, nat_lt, List, [], ◌∷◌, ◌++◌, flat_map, map, length, ℤ, unsigned_abs}
+use Rattle.std.specs.Prelude.{ℕ, suc, Bool, false, ◌||◌, List, [], ◌∷◌, ◌++◌, flat_map, map, length}
 use Rattle.species_ast.specs.declared.tree.Stmt.{Stmt, para-Stmt}
 use Rattle.species_ast.specs.declared.tree.Loop.{Loop}
 use Rattle.species_ast.specs.declared.tree.Stmt.TheOpen.{Stmt-F, Loop-F}

@@ -45,8 +45,8 @@ is_made_at w (Expr-F.Or a b) = a && b
 is_made_at w (Expr-F.Cond c a b) = c && (a && b)
 is_made_at w (Expr-F.Cast k a) = a
 
--- each array, local and iterator that an expression names is there, and each element has as many subscripts as its array has
--- dimensions
+-- what an expression names is there: its arrays, locals and iterators; and each element has one subscript for each dimension
+-- of its array
 abbrev pub is_made : Around → Expr → Bool
 is_made w = fold-Expr Bool (is_made_at w)
 
@@ -100,7 +100,7 @@ made_at (Stmt-F.For l) = l
 made_at (Stmt-F.Block body) =
     record { declares = []; front = only_loops (fronts_of body); holds = list_holds body; keeps = list_keeps body }
 
--- a parallel mark has a depth of at least 1
+-- the depth of a parallel mark is not 0
 abbrev pub has_depth : Mark → Bool
 has_depth Plain = true
 has_depth (Parallel depth schedule) = nat_le 1 depth

@@ -41,7 +41,7 @@ depths_at (RawWhat-F.If test body otherwise) = body && holds_or_none otherwise
 depths_at (RawWhat-F.Loop l) = l
 depths_at w = true
 
--- each parallel mark in a statement has a depth of at least 1
+-- the depth of no parallel mark in a statement is 0
 abbrev pub has_depths : RawStmt → Bool
 has_depths = fold-RawStmt Bool Bool Bool depths_at (λ l. has_depth l.parallel && l.body) (λ s. s.what)
 

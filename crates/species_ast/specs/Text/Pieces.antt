@@ -1,5 +1,5 @@
 -- What stands at the front of some bytes: a blank, a comment, a directive, a token, or what is none of these.
-use Rattle.std.specs.Prelude.{◌≡◌, ℕ, zero, suc, Bool, true, false, if◌then◌else◌, nat_eq, max, List, ◌∷◌, length, take, codes, Option, Some, None, unwrap_or, Result, Ok, Err}
+use Rattle.std.specs.Prelude.{◌≡◌, ℕ, zero, suc, Bool, true, false, if◌then◌else◌, nat_eq, List, ◌∷◌, length, take, codes, Option, Some, None, unwrap_or, Result, Ok, Err}
 use Rattle.species_ast.specs.Text.Characters.{is_blank, is_letter, is_digit, is_word, begins, run_of, line_len}
 use Rattle.species_ast.specs.Text.Comments.{comment_len, splice_at}
 use Rattle.species_ast.specs.Text.Numbers.{run_more, literal_of}
@@ -100,6 +100,10 @@ piece_of is_head b bytes = piece_in (start_of b bytes) is_head b bytes
 
 -- ---- how much of the bytes decides it
 
+abbrev pub at_least_one : ℕ → ℕ
+at_least_one zero = 1
+at_least_one (suc n) = suc n
+
 -- How many bytes are looked at to tell the piece at the front of `b ∷ bytes`, where one more is at hand: those of the piece, or
 -- of what is refused. A comment that is not closed takes all of them.
 abbrev pub extent_in : Start → Bool → ℕ → List ℕ → ℕ
@@ -110,7 +114,7 @@ extent_in Letter is_head b bytes = suc (run_of is_word bytes)
 extent_in Digit is_head b bytes = suc (run_more b bytes)
 extent_in Hash true b bytes = suc (line_len bytes)
 extent_in Hash false b bytes = 1
-extent_in Other is_head b bytes = max 1 (punctuator_len (b ∷ bytes))
+extent_in Other is_head b bytes = at_least_one (punctuator_len (b ∷ bytes))
 
 unfoldable pub extent_of : Bool → ℕ → List ℕ → ℕ
 extent_of is_head b bytes = extent_in (start_of b bytes) is_head b bytes

@@ -1,0 +1,13 @@
+pub mod Combining
+pub mod Fine
+pub mod FormSums
+pub mod Cutting
+pub mod PieceParts
+pub mod FormsRead
+pub mod ArcsRead
+pub mod FormsBack
+pub mod ArcsBack
+pub mod Pieces
+pub mod LinesBack
+pub mod ReasonsBack
+pub mod ReadBack

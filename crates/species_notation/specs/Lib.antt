@@ -1,0 +1,6 @@
+pub mod Parts
+pub mod Spelled
+pub mod Readers
+pub mod Meaning
+pub mod Written
+pub mod Law

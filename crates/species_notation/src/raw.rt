@@ -1,0 +1,107 @@
+//! What a species line says, before sums are made and names are looked up.
+
+use species_arcs::Word;
+use sqlite_items::Items;
+use std::marker::Model;
+
+/// A name or a word of the text, seen as its bytes.
+#[derive(Drop)]
+pub(crate) struct Spelling<'a> {
+    bytes: &'a [u8],
+}
+
+impl<'a> Model for Spelling<'a> {
+    ghost use Rattle.std.specs.Prelude.{List, ℕ};
+
+    ghost Value = { List ℕ };
+
+    ghost view = { λ s. s.bytes.now };
+}
+
+impl<'a> Spelling<'a> {
+    ghost use Rattle.std.specs.Prelude.{◌≡◌};
+
+    pub(crate) fn new(bytes: &'a [u8]) -> Spelling<'a>
+        ensures { result ≡ bytes.now }
+    {
+        Spelling { bytes }
+    }
+
+    pub(crate) fn as_slice(&self) -> &'a [u8]
+        ensures { result.now ≡ self.now }
+    {
+        self.bytes
+    }
+
+    pub(crate) fn copy(&self) -> Spelling<'a>
+        ensures { result ≡ self.now }
+    {
+        Spelling { bytes: self.bytes }
+    }
+}
+
+/// A number, and the name that it is a coefficient of.
+#[derive(Drop)]
+pub(crate) struct Summand<'a> {
+    pub(crate) negative: bool,
+    pub(crate) number: u128,
+    pub(crate) name: Option<Spelling<'a>>,
+}
+
+/// A form: one summand or more.
+#[derive(Drop)]
+pub(crate) struct RawForm<'a> {
+    pub(crate) first: Summand<'a>,
+    pub(crate) more: Items<Summand<'a>>,
+}
+
+/// A number with its sign.
+#[derive(Clone, Copy)]
+pub(crate) struct RawInt {
+    pub(crate) negative: bool,
+    pub(crate) size: u128,
+}
+
+/// The offsets of a dimension, with the stride where it is said.
+#[derive(Clone, Copy)]
+pub(crate) struct RawSpan {
+    pub(crate) low: RawInt,
+    pub(crate) high: RawInt,
+    pub(crate) stride: Option<u128>,
+}
+
+/// The two ends of a dimension's domain.
+#[derive(Drop)]
+pub(crate) struct RawRange<'a> {
+    pub(crate) low: RawForm<'a>,
+    pub(crate) high: RawForm<'a>,
+}
+
+/// An arc.
+#[derive(Drop)]
+pub(crate) struct RawArc<'a> {
+    pub(crate) name: Spelling<'a>,
+    pub(crate) ranges: Items<RawRange<'a>>,
+    pub(crate) word: Word,
+    /// Those behind the word, where there are any; `None` for a `-`.
+    pub(crate) offsets: Option<Items<Option<RawSpan>>>,
+    pub(crate) forms: Items<RawForm<'a>>,
+    pub(crate) exact: bool,
+}
+
+/// A line.
+#[derive(Drop)]
+pub(crate) enum RawLine<'a> {
+    Carried {
+        name: Spelling<'a>,
+        first: u128,
+        second: u128,
+    },
+    Local {
+        name: Spelling<'a>,
+    },
+    Sides {
+        left: Items<RawArc<'a>>,
+        right: Items<RawArc<'a>>,
+    },
+}

@@ -1,0 +1,9 @@
+pub mod Applied
+pub mod Distinct
+pub mod Every
+pub mod Indices
+pub mod Places
+pub mod Scopes
+pub mod Sites
+pub mod Values
+pub mod Walks
