@@ -7,7 +7,7 @@ use Rattle.species_ast.specs.Text.Stream.{Definition, finished, stream_of}
 use Rattle.species_lexer.specs.declared.refusal.CutRefusal.{CutRefusal}
 use Rattle.species_lexer.specs.declared.refusal.CutRefusal.TheVariants.{Lex, Memory}
 use Rattle.species_lexer.specs.Entries.{Table}
-use Rattle.species_lexer.specs.Fed.{CutPart, extent, refusal_at, past, put_all, with_rest}
+use Rattle.species_lexer.specs.Fed.{CutPart, cut_size, refusal_at, past, put_all, with_rest}
 
 -- the definition that an entry of the table of names is
 abbrev pub definition_of : Vec ℕ × Value → Definition
@@ -15,7 +15,7 @@ definition_of e = record { name = e.0.items; literal = e.1 }
 
 -- the piece was cut, and has this many bytes; or it is a refusal, or memory ran out, and nothing changed
 abbrev pub Adds : Result ℕ CutRefusal → CutPart → CutPart → List ℕ → Piece → Type 0
-Adds (Ok n) old new bytes p = (0 < n) × (n ≤ length bytes) × (n ≡ extent p) × (new ≡ past old bytes p)
+Adds (Ok n) old new bytes p = (0 < n) × (n ≤ length bytes) × (n ≡ cut_size p) × (new ≡ past old bytes p)
 Adds (Err (Lex r)) old new bytes p = (refusal_at old.place p ≡ Some r) × (new ≡ old)
 Adds (Err Memory) old new bytes p = new ≡ old
 

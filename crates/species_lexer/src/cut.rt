@@ -1,5 +1,5 @@
 //! Cutting a text piece by piece, with a table of the names that it defines.
-ghost use Rattle.std.specs.Prelude.{◌≡◌, ◌≤◌, ◌+◌, ◌++◌, ◌∷◌, [], None, List, ℕ, length, drop, OnOk, OnErr, Some};
+ghost use Rattle.std.specs.Prelude.{◌≡◌, ◌≤◌, ◌+◌, ◌++◌, ◌∷◌, [], None, List, ℕ, length, drop, OnOk, OnErr, Some, false, true};
 ghost use Rattle.species_ast.specs.Text.Stream.{in_scope, look_up};
 ghost use Rattle.species_ast.specs.declared.token.TokenKind.TheVariants as kind;
 ghost use Rattle.species_lexer.specs.Pieces.{seen_piece, piece_at, Fits};
@@ -74,8 +74,8 @@ impl Cut {
     /// Cuts the piece at the front of these bytes.
     fn add(&mut self, piece: Piece<'_>, rest: &[u8]) -> Result<usize, CutRefusal>
         requires short { self.old.table.length + length rest.now ≤ 4194304 }
-        requires piece { Some (seen_piece piece.entry) ≡ piece_at self.old.is_head rest.now }
-        requires fits { Fits piece.entry rest.now }
+        requires piece { Some (seen_piece piece) ≡ piece_at self.old.is_head rest.now }
+        requires fits { Fits piece rest.now }
         ensures { Adds result (seen_cut self.old) (seen_cut self.new) rest.now (in_scope self.old.names (seen_piece piece.entry)) }
     {
         let place = self.table.length();

@@ -16,11 +16,11 @@ use Rattle.species_meaning.specs.Answers.{typed}
 use Rattle.species_meaning.specs.Effects.{and_then, Reads, reads, value, answer_in}
 use Rattle.species_meaning.proofs.Law.{reads-Binary, reads-Cond}
 
-value_in : Result Typed Trap → Value
+abbrev value_in : Result Typed Trap → Value
 value_in (Ok t) = t.value
 value_in (Err why) = Int (pos 0)
 
-kind_in : Result Typed Trap → Kind
+abbrev kind_in : Result Typed Trap → Kind
 kind_in (Ok t) = t.kind
 kind_in (Err why) = kind.Int
 
@@ -53,9 +53,9 @@ typed_binary w op a b f m x y p q =
     ∙ (λ i. and_then (answer_in (binary_of op x.value y.value)) (λ v. Ok (record { value = v; kind = binary_kind op (typed_kind e f m x p i) (typed_kind d f m y q i) })))
 
 -- a choice whose test gave this truth
-chosen : (w : Context) (c a b : Expr) (f : Frame) (m : Cells) (x : Value) (b_true : Bool) → value w c f m ≡ Ok x → is_true x ≡ b_true
-    → value w (expr.Cond c a b) f m ≡ and_then (if b_true then value w a f m else value w b f m) (λ v. Ok (converted (joint (reads w a).kind (reads w b).kind) v))
-chosen w c a b f m x b_true p q =
+chosen : (w : Context) (c a b : Expr) (f : Frame) (m : Cells) (x : Value) (passed : Bool) → value w c f m ≡ Ok x → is_true x ≡ passed
+    → value w (expr.Cond c a b) f m ≡ and_then (if passed then value w a f m else value w b f m) (λ v. Ok (converted (joint (reads w a).kind (reads w b).kind) v))
+chosen w c a b f m x passed p q =
     let e = reads w a in
     let d = reads w b in
     ap (λ r. r.gives f m) (reads-Cond w c a b)

@@ -1,6 +1,6 @@
 -- Arrays of a unit stay arrays of it: rows keep their lengths, and values their kinds.
-use Rattle.std.proofs.Common.{◌≡◌, arith, refl, ap, sym, ◌∙◌, subst, ℕ, zero, suc, ◌<◌, ◌*◌, List, [], ◌∷◌, length, map, replicate, ℤ, pos}
-use Rattle.std.specs.Prelude.{slice_get, unwrap_or, option_map, All, IsTrue}
+use Rattle.std.proofs.Common.{◌≡◌, arith, refl, ap, sym, ◌∙◌, subst, ℕ, zero, suc, List, [], ◌∷◌, length, replicate, ℤ, pos}
+use Rattle.std.specs.Prelude.{slice_get, unwrap_or, option_map, All}
 use Rattle.species_ast.specs.declared.tree.Array.{Array}
 use Rattle.species_ast.specs.declared.tree.Kind.{Kind}
 use Rattle.species_ast.specs.declared.tree.Kind.TheVariants as kind
@@ -8,9 +8,9 @@ use Rattle.species_ast.specs.declared.tree.Stmt.{Stmt}
 use Rattle.species_ast.specs.declared.tree.Unit.{Unit as Program}
 use Rattle.species_ast.specs.declared.tree.Value.{Value}
 use Rattle.species_ast.specs.Operators.{in_kind}
-use Rattle.species_ast.specs.Accesses.{Joins, Cells, Direction, Reads, Writes, Adds, Element, change, changed, Access, accesses, Ended, run}
+use Rattle.species_ast.specs.Accesses.{Joins, Cells, Direction, Reads, Writes, Adds, Element, change, Access, accesses, Ended, run}
 use Rattle.species_ast.specs.Evaluation.{Frame, Context, product, array_kind}
-use Rattle.species_ast.specs.Run.{AreArraysOf, zeros_of, does_list, source_context, program_of, source_run, first_frame}
+use Rattle.species_ast.specs.Run.{AreArraysOf, zeros_of, does_list, source_context, source_run, first_frame}
 use Rattle.species_ast.proofs.Induction.{Each}
 use Rattle.species_runs.specs.Applied.{applied_as, applied, all_applied}
 use Rattle.species_runs.specs.Sites.{IsMadeAt, IsFitting}

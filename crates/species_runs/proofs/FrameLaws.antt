@@ -18,10 +18,10 @@ use Rattle.species_ast.specs.Scope.WellMade.{Around, list_holds, made}
 use Rattle.species_ast.proofs.Folds.{fold_stmt-SetLocal, fold_stmt-If, fold_stmt-For, fold_stmt-Block, fold_loop}
 use Rattle.species_ast.proofs.Induction.{Each, each_all, stmt_ind}
 use Rattle.species_ast.proofs.RunLaws.{step-Assign, step-AddTo, step-Declare, step-SetLocal, step-If, step-For, step-Block, loop-roll, locals-Declare, locals-If, locals-For, locals-Block}
-use Rattle.species_runs.specs.Every.{Anything, Every, Gives}
+use Rattle.species_runs.specs.Every.{Anything, Gives}
 use Rattle.species_runs.specs.Scopes.{without, sets_at, sets_of, sets_in, outer_locals_set, HasOnly, IsBut, AreApart}
 use Rattle.species_runs.proofs.EveryLaws.{every-then_do, every_weaker, every_both, every_one, gives_behind}
-use Rattle.species_runs.proofs.ScopeLaws.{or_false, both_false, never_both, out_left, out_right, set_other, body_keeps_scope}
+use Rattle.species_runs.proofs.ScopeLaws.{or_false, both_false, never_both, set_other, body_keeps_scope}
 
 -- ---- frames
 
@@ -52,11 +52,11 @@ abbrev pub AllMay : (ℕ → Bool) → List ℕ → Type 0
 AllMay may [] = Unit {0}
 AllMay may (x ∷ xs) = (may x ≡ true) × AllMay may xs
 
-may_left : (may : ℕ → Bool) (xs ys : List ℕ) → AllMay may (xs ++ ys) → AllMay may xs
+pub may_left : (may : ℕ → Bool) (xs ys : List ℕ) → AllMay may (xs ++ ys) → AllMay may xs
 may_left may [] ys h = tt
 may_left may (x ∷ xs) ys h = (h.0, may_left may xs ys h.1)
 
-may_right : (may : ℕ → Bool) (xs ys : List ℕ) → AllMay may (xs ++ ys) → AllMay may ys
+pub may_right : (may : ℕ → Bool) (xs ys : List ℕ) → AllMay may (xs ++ ys) → AllMay may ys
 may_right may [] ys h = h
 may_right may (x ∷ xs) ys h = may_right may xs ys h.1
 
@@ -177,7 +177,7 @@ or_right : (a b : Bool) → b ≡ true → (a || b) ≡ true
 or_right true b h = refl
 or_right false b h = h
 
-all_in : (may : ℕ → Bool) (xs : List ℕ) → ((y : ℕ) → is_among xs y ≡ true → may y ≡ true) → AllMay may xs
+pub all_in : (may : ℕ → Bool) (xs : List ℕ) → ((y : ℕ) → is_among xs y ≡ true → may y ≡ true) → AllMay may xs
 all_in may [] h = tt
 all_in may (x ∷ xs) h = (h x (or_left (nat_eq x x) (is_among xs x) (itself x)), all_in may xs (λ y there. h y (or_right (nat_eq y x) (is_among xs y) there)))
   where

@@ -3,6 +3,7 @@ pub mod ArraysLaws
 pub mod EveryLaws
 pub mod FrameLaws
 pub mod IndexLaws
+pub mod OperatorLaws
 pub mod PlaceLaws
 pub mod ReadLaws
 pub mod ScopeLaws

@@ -16,7 +16,7 @@ use Rattle.species_ast.specs.Scope.WellMade.{Around, Made, list_holds, made, mad
 use Rattle.species_ast.proofs.Folds.{fold_stmt-Assign, fold_stmt-AddTo, fold_stmt-Declare, fold_stmt-SetLocal, fold_stmt-If, fold_stmt-For, fold_stmt-Block, fold_loop}
 use Rattle.species_ast.proofs.Induction.{Each, each_all, stmt_ind}
 use Rattle.species_ast.proofs.RunLaws.{step-Assign, step-AddTo, step-Declare, step-SetLocal, step-If, step-For, step-Block, loop-roll}
-use Rattle.species_runs.specs.Every.{Anything, Every, Gives}
+use Rattle.species_runs.specs.Every.{Anything, Gives}
 use Rattle.species_runs.specs.Scopes.{HasOnly}
 use Rattle.species_runs.proofs.EveryLaws.{every-then_do, every_one, gives_behind}
 

@@ -1,18 +1,17 @@
 -- Each access of a piece of program sits inside it, with the iterators in force, and is to the element of its indices; what it
 -- gives is a value of the array's kind.
-use Rattle.std.proofs.Common.{◌≡◌, refl, ap, sym, ◌∙◌, subst, ℕ, suc, ◌+◌, List, [], ◌∷◌, ◌++◌, map, length, Option, Some, None, Bool, true, false, if◌then◌else◌, ℤ, Ok, Err}
+use Rattle.std.proofs.Common.{◌≡◌, refl, sym, ◌∙◌, subst, ℕ, suc, ◌+◌, List, [], ◌∷◌, ◌++◌, map, length, Option, Some, None, Bool, true, false, if◌then◌else◌, ℤ, Ok, Err}
 use Rattle.std.proofs.lemmas.List.{append-nil, append_assoc}
 use Rattle.species_ast.specs.declared.tree.Binary.TheVariants as binary
 use Rattle.species_ast.specs.declared.tree.Expr.{Expr}
 use Rattle.species_ast.specs.declared.tree.Kind.TheVariants as kind
 use Rattle.species_ast.specs.declared.tree.Loop.{roll-Loop}
 use Rattle.species_ast.specs.declared.tree.Stmt.{Stmt}
-use Rattle.species_ast.specs.declared.tree.Test.{Test}
 use Rattle.species_ast.specs.declared.tree.Value.{Value}
 use Rattle.species_ast.specs.Operators.{Answer, converted, is_true, number_of, reduced, unary_of, binary_of}
-use Rattle.species_ast.specs.Accesses.{Joins, Cells, Forbidden, Site, Tree, Ret, Stop, Write, Add, then_do, Direction, Reads, Writes, Adds, Access, access, accesses}
+use Rattle.species_ast.specs.Accesses.{Joins, Cells, Forbidden, Site, Tree, Ret, Stop, Add, then_do, Direction, Reads, Writes, Adds, Access, access, accesses}
 use Rattle.species_ast.specs.Evaluation.{Frame, Context, Spot, Sense, sense, site_at, known, answered, tested, values_of, target_of, indices_in, sizes_of, element_at, elements_in, array_kind, local_kind, local_of, with_local}
-use Rattle.species_ast.specs.Run.{Step, cleared, declared_in, inside, outside, turns, looping, assignment, addition, adding, setting, declaring, branching, initial, spot, step, does_list, does_scope, iterator_values}
+use Rattle.species_ast.specs.Run.{Step, cleared, declared_in, inside, outside, turns, addition, declaring, initial, spot, step, does_list, does_scope, iterator_values}
 use Rattle.species_ast.proofs.Induction.{Each, each_all, expr_ind, stmt_ind}
 use Rattle.species_ast.proofs.RunLaws.{sense-Literal, sense-Iter, sense-Local, sense-Elem, sense-Unary, sense-Binary, sense-And, sense-Or, sense-Cond, sense-Cast, step-Assign, step-AddTo, step-Declare, step-SetLocal, step-If, step-For, step-Block, loop-roll}
 use Rattle.species_runs.specs.Every.{Anything, Every}

@@ -1,20 +1,19 @@
 -- Laws of values: what is converted to a kind is a value of it, and sums are values.
-use Rattle.std.proofs.Common.{◌≡◌, refl, ap, sym, ◌∙◌, subst, arith, ℕ, zero, suc, ◌+◌, ◌^◌, ◌<◌, ℤ, pos, negsuc, ◌-ℤ◌, Bool, true, false, if◌then◌else◌}
-use Rattle.std.specs.Prelude.{◌-◌, ◌%◌, nat_lt}
+use Rattle.std.proofs.Common.{◌≡◌, refl, ap, ◌∙◌, subst, arith, ℕ, ◌^◌, ◌<◌, ℤ, pos, negsuc, ◌-ℤ◌, Bool, true, false, if◌then◌else◌}
+use Rattle.std.specs.Prelude.{◌-◌, nat_lt}
 use Rattle.std.specs.Ordering.{int_eq}
 use Rattle.std.proofs.Math.Nat.{mod-lt, mod-eq_of_lt}
-use Rattle.std.proofs.lemmas.Bool.Decides.{nat_tests}
 use Rattle.std.proofs.lemmas.Int.{ints}
 use Rattle.species_ast.specs.declared.tree.Kind.{Kind}
 use Rattle.species_ast.specs.declared.tree.Kind.TheVariants as kind
 use Rattle.species_ast.specs.declared.tree.Value.{Value}
-use Rattle.species_ast.specs.Operators.{residue, signed_from, bits_of, bits_in, reduced, is_number_of, in_kind, kind_of, number_of, converted}
+use Rattle.species_ast.specs.Operators.{residue, signed_from, reduced, is_number_of, in_kind, kind_of, number_of, converted}
 use Rattle.species_ast.specs.Accesses.{sums}
 use Rattle.species_runs.specs.Values.{IsOf, KeepsValues}
 
 -- ---- reduced numbers
 
-residue_below : (n : ℤ) (m : ℕ) → 0 < m → residue n m < m
+pub residue_below : (n : ℤ) (m : ℕ) → 0 < m → residue n m < m
 residue_below (pos n) m h = mod-lt n h
 residue_below (negsuc n) m h = omega arith
 

@@ -1,10 +1,11 @@
 -- Locals in and out of scope, and what a statement leaves of the frame.
 use Rattle.std.specs.Prelude.{◌≡◌, ℕ, Bool, true, false, not, List, [], ◌∷◌, ◌++◌, map, filter, flat_map, length, None}
 use Rattle.species_ast.specs.declared.tree.Stmt.{Stmt, fold-Stmt}
-use Rattle.species_ast.specs.declared.tree.Stmt.TheOpen.{Stmt-F, Loop-F}
+use Rattle.species_ast.specs.declared.tree.Stmt.TheOpen.{Stmt-F}
 use Rattle.species_ast.specs.Evaluation.{Frame, local_of}
 use Rattle.species_ast.specs.Run.{locals_in}
 use Rattle.species_ast.specs.Scope.Meanings.{is_among}
+use Rattle.species_ast.specs.Scope.WellMade.{Around, list_holds, made}
 
 -- a list without what is in another
 abbrev pub without : List ℕ → List ℕ → List ℕ
@@ -45,3 +46,11 @@ pub record IsBut (may : ℕ → Bool) (f g : Frame) : Type 0 where
 -- no local is in both lists
 abbrev pub AreApart : List ℕ → List ℕ → Type 0
 AreApart xs ys = (y : ℕ) → is_among xs y ≡ true → is_among ys y ≡ false
+
+-- These statements fit where they stand: what they name is there, they declare no local that is in scope there, and in the
+-- frame a local out of scope has no value.
+pub record FitIn (body : List Stmt) (f : Frame) : Type 0 where
+  pub around : Around
+  pub holds : list_holds (map made body) around ≡ true
+  pub apart : AreApart (locals_in body) around.locals
+  pub only : HasOnly around.locals f

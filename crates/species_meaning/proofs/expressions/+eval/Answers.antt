@@ -1,7 +1,7 @@
-use Rattle.std.proofs.Common.{rules, refl, Some, ◌≡◌, Ok}
+use Rattle.std.proofs.Common.{rules, refl, Some, ◌≡◌, ◌∙◌, ap, Ok}
 use Rattle.species_ast.specs.declared.tree.Expr.TheVariants as expr
 use Rattle.species_ast.specs.Operators.{joint, converted}
-use Rattle.species_meaning.specs.Effects.{value}
+use Rattle.species_meaning.specs.Effects.{value, reads}
 use Rattle.species_meaning.proofs.Choices.{typed_binary, first_chosen, second_chosen, first_typed, second_typed}
 use Rattle.species_ast.specs.Run.{source_context}
 use Rattle.species_meaning.specs.Places.{next_in}
@@ -24,7 +24,7 @@ target-loop-e-preserved t c =
 pub eval_rest-returns-in-Ok-eval_typed : goal.eval_rest-returns-in-Ok-eval_typed
 eval_rest-returns-in-Ok-eval_typed t c =
     let w = source_context c.args.unit.now in
-    let is = first_chosen w c.in-Cond.test c.in-Cond.a c.in-Cond.b c.args.frame.now c.args.arrays.now c.in-Ok-eval-3.x c.in-Ok-eval_typed.v c.kind.result (search rules) (search rules) (search rules) (search rules) in
+    let is = first_chosen w c.in-Cond.test c.in-Cond.a c.in-Cond.b c.args.frame.now c.args.arrays.now c.in-Ok-eval-3.x c.in-Ok-eval_typed.v c.kind.result (search rules) (search rules) (search rules) (c.kind.ensures ∙ ap (λ e. (reads w e).kind) c.get-in-Ok-eval_typed.ensures) in
     rw (c.in-Cond.is, is) (search rules)
 
 pub eval_rest-returns-in-Ok-eval_typed-2 : goal.eval_rest-returns-in-Ok-eval_typed-2
@@ -42,5 +42,5 @@ eval_typed-returns-in-Ok-eval_typed-2 t c =
 pub eval_typed-returns-in-Ok-eval_typed-3 : goal.eval_typed-returns-in-Ok-eval_typed-3
 eval_typed-returns-in-Ok-eval_typed-3 t c =
     let w = source_context c.args.unit.now in
-    let is = first_typed w c.in-Cond.test c.in-Cond.a c.in-Cond.b c.args.frame.now c.args.arrays.now c.in-Ok-eval.x c.in-Ok-eval_typed-3.v c.kind.result (search rules) (search rules) (search rules) (search rules) in
+    let is = first_typed w c.in-Cond.test c.in-Cond.a c.in-Cond.b c.args.frame.now c.args.arrays.now c.in-Ok-eval.x c.in-Ok-eval_typed-3.v c.kind.result (search rules) (search rules) (search rules) (c.kind.ensures ∙ ap (λ e. (reads w e).kind) c.get-in-Ok-eval_typed-3.ensures) in
     rw (c.in-Cond.is, is) (search rules)

@@ -1,0 +1,11 @@
+pub mod ArrivalLaws
+pub mod FitLaws
+pub mod Inversion
+pub mod InwardLaws
+pub mod IteratorArrivals
+pub mod NestFits
+pub mod NestLaws
+pub mod QuietLaws
+pub mod RunningLaws
+pub mod StaysLaws
+pub mod Unique
