@@ -8,7 +8,7 @@ ghost use Rattle.species_meaning.specs.Effects.{element};
 ghost use Rattle.species_meaning.specs.Places.{capped};
 
 use species_ast::{Array, Kind, OutOfMemory, Unit, Value};
-use species_cint::{kind_of, number, wrapped};
+use species_cint::added;
 use std::alloc::Global;
 use std::marker::Model;
 
@@ -97,15 +97,8 @@ impl Arrays {
         ensures { (n : ℕ) → at ≡ capped n → self.new ≡ changed self.old (element array n) (added value) }
     {
         let old = self.cell(array, at);
-        self.put(array, at, sum(old, value));
+        self.put(array, at, added(value, old));
     }
-}
-
-/// The sum in the kind of the first, modulo 2 to the power of its width.
-fn sum(old: Value, value: Value) -> Value
-    ensures { result ≡ added value old }
-{
-    wrapped(kind_of(old), number(old) + number(value))
 }
 
 /// A row of zeros.

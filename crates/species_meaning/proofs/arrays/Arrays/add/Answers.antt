@@ -7,5 +7,5 @@ use Rattle.species_meaning.proofs.arrays.Arrays.add.Goals as goal
 pub returns : goal.returns
 returns c n h =
     c.put.ensures n h
-    ∙ ap (λ v. changed c.args.self.now (element c.args.array n) (λ x. v)) (c.sum.ensures ∙ ap (added c.args.value) (c.cell-old.ensures n h))
+    ∙ ap (λ v. changed c.args.self.now (element c.args.array n) (λ x. v)) (c.added.ensures ∙ ap (added c.args.value) (c.cell-old.ensures n h))
     ∙ changed_at c.args.self.now c.args.array n (added c.args.value)
