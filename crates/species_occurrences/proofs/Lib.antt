@@ -5,3 +5,6 @@ pub mod TakenLaws
 pub mod AffineLaws
 pub mod MadeLaws
 pub mod ExpressionLaws
+pub mod BareLaws
+pub mod HeaderLaws
+pub mod SimpleLaws
