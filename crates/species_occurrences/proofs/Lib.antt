@@ -8,3 +8,6 @@ pub mod ExpressionLaws
 pub mod BareLaws
 pub mod HeaderLaws
 pub mod SimpleLaws
+pub mod StatementLaws
+pub mod RegularLaws
+pub mod PositionLaws
