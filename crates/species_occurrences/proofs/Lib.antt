@@ -11,3 +11,5 @@ pub mod SimpleLaws
 pub mod StatementLaws
 pub mod RegularLaws
 pub mod PositionLaws
+pub mod NestLaws
+pub mod LocationLaws
