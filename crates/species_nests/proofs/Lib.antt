@@ -8,4 +8,5 @@ pub mod NestLaws
 pub mod QuietLaws
 pub mod RunningLaws
 pub mod StaysLaws
+pub mod SumLaws
 pub mod Unique
