@@ -3,6 +3,7 @@ pub mod FitLaws
 pub mod Inversion
 pub mod InwardLaws
 pub mod IteratorArrivals
+pub mod MarkLaws
 pub mod NestFits
 pub mod NestLaws
 pub mod QuietLaws
