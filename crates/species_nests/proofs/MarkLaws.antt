@@ -1,7 +1,7 @@
 -- Where the run of a unit's source ends, the run of the unit with its marks ends in the same frame and the same arrays, if it adds
 -- atomically to unsigned arrays alone. (Where the source is undefined, the unit with its marks need not be: a sum in a signed kind of
 -- more bits may overflow in the source.)
-use Rattle.std.proofs.Common.{◌≡◌, refl, ap, sym, ◌∙◌, subst, ℕ, zero, suc, List, [], ◌∷◌, ◌++◌, map, length, ℤ, Bool, true, false, ◌&&◌, not, if◌then◌else◌, Option, Some, None, Ok, Err}
+use Rattle.std.proofs.Common.{◌≡◌, refl, ap, sym, ◌∙◌, subst, ℕ, zero, suc, List, [], ◌∷◌, ◌++◌, map, length, ℤ, Bool, true, false, not, if◌then◌else◌, Some, None, Ok, Err}
 use Rattle.std.specs.Prelude.{slice_get, option_and_then, unwrap_or}
 use Rattle.std.specs.List.{list_all}
 use Rattle.std.proofs.lemmas.List.{length-map}
@@ -18,8 +18,8 @@ use Rattle.species_ast.specs.declared.tree.Unit.{Unit as Program}
 use Rattle.species_ast.specs.declared.tree.Value.{Value}
 use Rattle.species_ast.specs.Operators.{Answer, is_signed, is_true, converted, binary_of, number_of, reduced}
 use Rattle.species_ast.specs.Strip.{strip_step, strip_layer, strip_stmt, source_of}
-use Rattle.species_ast.specs.Accesses.{sums, Element, Cells, look, cell, change, changed, added, Site, Forbidden, Tree, Ret, Stop, Write, Add, then_do, Ended, run}
-use Rattle.species_ast.specs.Evaluation.{Frame, Context, Spot, sense, answered, site_at, element_at, target_of, elements_in, array_kind, sizes_of, row_order, local_of}
+use Rattle.species_ast.specs.Accesses.{sums, Element, Cells, look, cell, change, changed, Site, Forbidden, Tree, Ret, Stop, Write, Add, then_do, Ended, run}
+use Rattle.species_ast.specs.Evaluation.{Frame, Context, Spot, sense, answered, site_at, element_at, target_of, elements_in, array_kind, sizes_of, row_order}
 use Rattle.species_ast.specs.Run.{inside, outside, turns, iterator_values, looping, adding, addition, cleared, declared_in, spot, step, does_list, does_scope, AreArraysOf, source_context, first_frame, source_run, sums_take}
 use Rattle.species_ast.proofs.ArrayLaws.{HasElements, has_elements, OutcomeKeeps, run_keeps, sums_keep}
 use Rattle.species_ast.proofs.Folds.{fold_stmt-Assign, fold_stmt-AddTo, fold_stmt-Declare, fold_stmt-SetLocal, fold_stmt-If, fold_stmt-For, fold_stmt-Block, fold_loop}
