@@ -1,22 +1,19 @@
 -- Laws of courses. A unit without parallel marks is one sequential part, whatever is gathered.
-use Rattle.std.proofs.Common.{◌≡◌, refl, ap, sym, ◌∙◌, subst, ℕ, suc, List, [], ◌∷◌, ◌++◌, map, flat_map, length, ℤ, Bool, true, false, ◌&&◌, if◌then◌else◌}
+use Rattle.std.proofs.Common.{◌≡◌, refl, ap, sym, ◌∙◌, ℕ, suc, List, [], ◌∷◌, ◌++◌, map, flat_map, length, ℤ, Bool, true, false, if◌then◌else◌}
 use Rattle.std.specs.List.{list_all}
 use Rattle.std.specs.Prelude.{not}
 use Rattle.std.proofs.lemmas.List.{length-map}
-use Rattle.species_ast.specs.declared.tree.Expr.{Expr}
-use Rattle.species_ast.specs.declared.tree.Loop.{Loop, out-Loop, roll-Loop}
+use Rattle.species_ast.specs.declared.tree.Loop.{Loop, roll-Loop}
 use Rattle.species_ast.specs.declared.tree.Mark.{Mark}
 use Rattle.species_ast.specs.declared.tree.Mark.TheVariants.{Plain, Parallel}
 use Rattle.species_ast.specs.declared.tree.Stmt.{Stmt}
-use Rattle.species_ast.specs.declared.tree.Stmt.TheOpen.{Stmt-F, Loop-F}
-use Rattle.species_ast.specs.declared.tree.Stmt.TheVariants as stmt
+use Rattle.species_ast.specs.declared.tree.Stmt.TheOpen.{Loop-F}
 use Rattle.species_ast.specs.declared.tree.Unit.{Unit as Program}
-use Rattle.species_ast.specs.declared.tree.Value.{Value}
 use Rattle.species_ast.specs.Marks.{all_true, test_step, test_layer, is_plain, unmarked_stmt, IsUnmarked}
 use Rattle.species_ast.specs.Operators.{is_true}
 use Rattle.species_ast.specs.Accesses.{Joins, Cells, cell, Cause, Tree, Ret, Stop, Read, Write, Add, then_do, Ended, Stopped, run}
 use Rattle.species_ast.specs.Evaluation.{Frame, Context, sense}
-use Rattle.species_ast.specs.Run.{Step, step, step_at, inside, outside, turns, cleared, declared_in, does_list, does_scope, spot, source_context, first_frame, program_of}
+use Rattle.species_ast.specs.Run.{Step, step, inside, outside, turns, cleared, declared_in, does_list, does_scope, spot, source_context, first_frame, program_of}
 use Rattle.species_ast.proofs.Folds.{fold_stmt-If, fold_stmt-For, fold_stmt-Block, fold_loop}
 use Rattle.species_ast.proofs.Induction.{Each, each_all, stmt_ind}
 use Rattle.species_ast.proofs.Paras.{beside, seconds, para_stmt-Assign, para_stmt-AddTo, para_stmt-Declare, para_stmt-SetLocal, para_stmt-If, para_stmt-For, para_stmt-Block, para_loop}
@@ -24,7 +21,7 @@ use Rattle.species_ast.proofs.RunLaws.{step-Assign, step-AddTo, step-Declare, st
 use Rattle.species_runs.proofs.ScopeLaws.{and_true}
 use Rattle.species_nests.specs.Arrivals.{header, turn_of}
 use Rattle.species_nests.proofs.ArrivalLaws.{loop_is_header, does_For, does_If, does_Block, branch}
-use Rattle.bones_meaning.specs.Courses.{Course, Over, Halt, Reading, Writing, Adding, Together, and_then, after, Part, Coursing, course_list, course_scope, course_turns, sequential, by_mark, part_at, coursing_at, part, course_of}
+use Rattle.bones_meaning.specs.Courses.{Course, Over, Reading, Writing, Adding, and_then, after, Part, Coursing, course_list, course_scope, course_turns, by_mark, part_at, coursing_at, part, course_of}
 use Rattle.bones_meaning.specs.Gatherings.{Gatherings}
 use Rattle.bones_meaning.specs.Plays.{Finished, Undefined, enter}
 
