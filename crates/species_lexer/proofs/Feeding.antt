@@ -16,6 +16,10 @@ use Rattle.species_lexer.specs.declared.piece.Piece.TheVariants as piece
 use Rattle.species_lexer.specs.Pieces.{seen_piece, piece_at}
 use Rattle.species_lexer.specs.Found.{kind_of, length_in}
 use Rattle.species_lexer.specs.Fed.{CutPart, cut_size, refusal_at, past, put_all, with_rest, Fed, IsFed}
+use Rattle.species_lexer.specs.Entries.{Table}
+use Rattle.species_lexer.specs.Cut.{CutsAll, GivesTable}
+use Rattle.species_lexer.specs.declared.refusal.CutRefusal.{CutRefusal}
+use Rattle.species_lexer.specs.declared.refusal.CutRefusal.TheVariants.{Lex, Memory}
 use Rattle.species_lexer.proofs.Streams.{scope_lexeme, plain_kind}
 use Rattle.species_lexer.proofs.Plain.{plain_piece}
 
@@ -126,9 +130,9 @@ placed_past c bytes n (Refused r) some e = let x : ⊥ = omega (arith, some, e) 
 placed_next : (first old new : CutPart) (bytes rest : List ℕ) (at n : ℕ) (p : Piece) → at ≤ length bytes → old.place ≡ first.place + at → rest ≡ drop at bytes → Added old new rest n p
     → (at + n ≤ length bytes) × (new.place ≡ first.place + (at + n))
 placed_next first old new bytes rest at n p within placed re added = (
-      omega (arith, within, added.1, ap length re, length-drop at bytes),
-      omega (arith, placed, ap (λ c. c.place) added.3, placed_past old rest n p added.0 added.2),
-    )
+  omega (arith, within, added.1, ap length re, length-drop at bytes),
+  omega (arith, placed, ap (λ c. c.place) added.3, placed_past old rest n p added.0 added.2),
+)
 
 pub all_next : (first old new : CutPart) (bytes rest : List ℕ) (at n : ℕ) (q : Piece) → at ≤ length bytes → old.place ≡ first.place + at → with_rest first bytes ≡ with_rest old (drop at bytes)
     → rest ≡ drop at bytes → Some q ≡ piece_at old.is_head rest → Added old new rest n (in_scope old.definitions q)
@@ -144,7 +148,7 @@ all_next first old new bytes rest at n q within placed same re is added =
     )
 
 -- the piece at the front of some bytes, where more bytes follow that do not change it
-size_of : Piece → ℕ
+abbrev pub size_of : Piece → ℕ
 size_of (Space n) = n
 size_of (Lexeme n text k) = n
 size_of (Define n name value) = n
@@ -193,8 +197,66 @@ ended_next first old new bytes rest at n size o within placed same re is se less
       p.0,
       p.1,
       λ more.
-      same more ∙ ap (λ z. with_rest old (z ++ more)) (sym re)
+          same more ∙ ap (λ z. with_rest old (z ++ more)) (sym re)
           ∙ one_piece old rest more q n (still_there old.is_head rest more q is some short) added.0 added.1 added.2
           ∙ ap (λ c. with_rest c (drop n rest ++ more)) (sym added.3)
           ∙ ap (λ z. with_rest new (z ++ more)) (ap (drop n) re ∙ drop-drop n at bytes),
     )
+
+-- ---- what came
+
+-- a piece of the text came, and waits
+fed_more : (c : CutPart) (left piece bytes : List ℕ) → IsFed (record { cut = c; left = left }) bytes → IsFed (record { cut = c; left = left ++ piece }) (bytes ++ piece)
+fed_more c left piece bytes fed =
+    record {
+      counted = omega (arith, fed.counted, length-append bytes piece, length-append left piece);
+      same = λ more. ap stream_of (append_assoc bytes piece more) ∙ fed.same (piece ++ more) ∙ ap (with_rest c) (sym (append_assoc left piece more));
+    }
+
+-- the first bytes that waited were cut
+fed_cut : (old new : CutPart) (left rest bytes : List ℕ) (n : ℕ) → IsFed (record { cut = old; left = left }) bytes → n ≤ length left → new.place ≡ old.place + n → rest ≡ drop n left
+    → ((more : List ℕ) → with_rest old (left ++ more) ≡ with_rest new (drop n left ++ more)) → IsFed (record { cut = new; left = rest }) bytes
+fed_cut old new left rest bytes n fed within placed re same =
+    record {
+      counted = omega (arith, fed.counted, within, placed, ap length re, length-drop n left);
+      same = λ more. fed.same more ∙ same more ∙ ap (λ z. with_rest new (z ++ more)) (sym re);
+    }
+
+pub fed_waits : (fed new : Fed) (piece : List ℕ) → new ≡ record { cut = fed.cut; left = fed.left ++ piece } → (bytes : List ℕ) → IsFed fed bytes → IsFed new (bytes ++ piece)
+fed_waits fed new piece e bytes h = subst (λ f. IsFed f (bytes ++ piece)) (sym e) (fed_more fed.cut fed.left piece bytes h)
+
+pub fed_is_cut : (fed new : Fed) (piece left : List ℕ) (n : ℕ) → left ≡ fed.left ++ piece → n ≤ length left → new.cut.place ≡ fed.cut.place + n → new.left ≡ drop n left
+    → ((more : List ℕ) → with_rest fed.cut (left ++ more) ≡ with_rest new.cut (drop n left ++ more)) → (bytes : List ℕ) → IsFed fed bytes → IsFed new (bytes ++ piece)
+fed_is_cut fed new piece left n le within placed re same bytes h =
+    let f : IsFed (record { cut = fed.cut; left = left }) (bytes ++ piece) = subst (λ l. IsFed (record { cut = fed.cut; left = l }) (bytes ++ piece)) (sym le) (fed_more fed.cut fed.left piece bytes h) in
+    fed_cut fed.cut new.cut left new.left (bytes ++ piece) n f within placed re same
+
+-- nothing came
+pub fed_nothing : (fed : Fed) → fed ≡ record { cut = record { tokens = []; definitions = []; place = 0; is_head = true }; left = [] } → IsFed fed []
+fed_nothing fed e =
+    subst (λ f. IsFed f []) (sym e) (record { counted = refl; same = λ more. refl })
+
+-- all came
+whole_is : (fed : Fed) (bytes : List ℕ) → IsFed fed bytes → stream_of bytes ≡ with_rest fed.cut fed.left
+whole_is fed bytes h = ap stream_of (sym (append-nil bytes)) ∙ h.same [] ∙ ap (with_rest fed.cut) (append-nil fed.left)
+
+whole_cut_here : (fed : Fed) (new : CutPart) (bytes : List ℕ) → with_rest fed.cut fed.left ≡ put_all new.tokens finished → new.place ≡ fed.cut.place + length fed.left → IsFed fed bytes
+    → (stream_of bytes ≡ record { tokens = new.tokens; refusal = None }) × (new.place ≡ length bytes)
+whole_cut_here fed new bytes all placed h =
+    let as_stream : List Token → TokenStream = λ ts. record { tokens = ts; refusal = None } in
+    (whole_is fed bytes h ∙ all ∙ ap as_stream (append-nil new.tokens), omega (arith, placed, h.counted))
+
+pub whole_cut : (seen fed : Fed) (left : List ℕ) (new : CutPart) → seen ≡ fed → left ≡ seen.left → with_rest seen.cut left ≡ put_all new.tokens finished → new.place ≡ seen.cut.place + length left
+    → (bytes : List ℕ) → IsFed fed bytes → (stream_of bytes ≡ record { tokens = new.tokens; refusal = None }) × (new.place ≡ length bytes)
+whole_cut seen fed left new se le all placed bytes h =
+    whole_cut_here seen new bytes (ap (with_rest seen.cut) (sym le) ∙ all) (omega (arith, placed, ap length le)) (subst (λ f. IsFed f bytes) (sym se) h)
+
+pub whole_refused : (seen fed : Fed) (left : List ℕ) (r : LexRefusal) → seen ≡ fed → left ≡ seen.left → (with_rest seen.cut left).refusal ≡ Some r
+    → (bytes : List ℕ) → IsFed fed bytes → (stream_of bytes).refusal ≡ Some r
+whole_refused seen fed left r se le e bytes h =
+    ap (λ s. s.refusal) (whole_is seen bytes (subst (λ f. IsFed f bytes) (sym se) h) ∙ ap (with_rest seen.cut) (sym le)) ∙ e
+
+pub whole_answered : (seen fed : Fed) (left : List ℕ) (new : CutPart) (refusal : CutRefusal) (result : Result Table CutRefusal) → seen ≡ fed → left ≡ seen.left → CutsAll (Err refusal) seen.cut new left
+    → result ≡ Err refusal → (bytes : List ℕ) → IsFed fed bytes → GivesTable result bytes
+whole_answered seen fed left new (Lex r) result se le e re bytes h = subst (λ a. GivesTable a bytes) (sym re) (whole_refused seen fed left r se le e bytes h)
+whole_answered seen fed left new Memory result se le e re bytes h = subst (λ a. GivesTable a bytes) (sym re) tt

@@ -25,8 +25,12 @@ CutsAll (Ok _) old new bytes = (with_rest old bytes ≡ put_all new.tokens finis
 CutsAll (Err (Lex r)) old new bytes = (with_rest old bytes).refusal ≡ Some r
 CutsAll (Err Memory) old new bytes = Unit {0}
 
--- The tokens of a text and its length, where it has no refusal, and else that refusal; unless memory ran out.
+-- the text has no refusal, and the table has its tokens and its length
+abbrev pub IsTableOf : Table → List ℕ → Type 0
+IsTableOf table text = (stream_of text ≡ record { tokens = table.tokens; refusal = None }) × (table.length ≡ length text)
+
+-- The table of a text that has no refusal, and else that refusal; unless memory ran out.
 abbrev pub GivesTable : Result Table CutRefusal → List ℕ → Type 0
-GivesTable (Ok table) text = (stream_of text ≡ record { tokens = table.tokens; refusal = None }) × (table.length ≡ length text)
+GivesTable (Ok table) text = IsTableOf table text
 GivesTable (Err (Lex r)) text = (stream_of text).refusal ≡ Some r
 GivesTable (Err Memory) text = Unit {0}

@@ -52,8 +52,9 @@ impl Cut {
     fn define(&mut self, name: &[u8], literal: Value) -> Result<(), OutOfMemory>
         requires { look_up self.old.names name.now ≡ None }
         ensures ok { OnOk result (self.new ≡ record self.old {
-            table = record self.old.table { tokens = self.old.table.tokens ++ (record { place = self.old.table.length; text = name.now; kind = kind.Define literal } ∷ []) };
-            names = self.old.names ++ (record { name = name.now; literal = literal } ∷ []) }) }
+          table = record self.old.table { tokens = self.old.table.tokens ++ (record { place = self.old.table.length; text = name.now; kind = kind.Define literal } ∷ []) };
+          names = self.old.names ++ (record { name = name.now; literal = literal } ∷ []);
+        }) }
         ensures err { OnErr result (self.new ≡ self.old) }
     {
         self.names.define(name, literal)?;

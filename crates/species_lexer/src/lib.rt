@@ -3,6 +3,7 @@
 
 mod comments;
 mod cut;
+mod cutter;
 mod directives;
 mod fault;
 mod form;
@@ -19,6 +20,7 @@ mod table;
 mod token;
 mod tokens;
 
+pub use cutter::Cutter;
 pub use refusal::CutRefusal;
 pub use species_ast::{LexRefusal, TokenKind};
 pub use table::{TableTokens, TokenTable};
