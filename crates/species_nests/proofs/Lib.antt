@@ -1,3 +1,4 @@
+pub mod ApartLaws
 pub mod ArrivalLaws
 pub mod FitLaws
 pub mod Inversion
