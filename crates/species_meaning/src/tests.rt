@@ -1,7 +1,7 @@
 use crate::{Arrays, RunAnswer, run_source};
 use species_ast::{
-    Array, Binary, Dims, Expr, Includes, Kind, LocalInfo, Loop, Mark, Name, OutOfMemory, Stmt, Test,
-    Trap, Unit, Value,
+    Array, Binary, Dims, Expr, Includes, Kind, LocalInfo, Loop, Mark, Name, OutOfMemory, Stmt,
+    Test, Trap, Unit, Value,
 };
 use species_cint::number;
 use sqlite_items::{Boxed, Items};
@@ -220,7 +220,19 @@ fn stmt(alloc: Global, code: u8, place: u32, stacks: &mut Stacks) -> Result<Stmt
 fn is_stmt(code: u8) -> bool {
     matches!(
         code,
-        b'S' | b'T' | b'P' | b'Y' | b'Q' | b'R' | b'D' | b'N' | b'V' | b'W' | b'K' | b'E' | b'F' | b'H'
+        b'S' | b'T'
+            | b'P'
+            | b'Y'
+            | b'Q'
+            | b'R'
+            | b'D'
+            | b'N'
+            | b'V'
+            | b'W'
+            | b'K'
+            | b'E'
+            | b'F'
+            | b'H'
     )
 }
 
@@ -303,7 +315,12 @@ const ENDED: [(&[u8], i32, u32, [i64; 4]); 13] = [
     (b"015&S103|S", 7, 0, [1, 1, 0, 0]),
     // a part that `?:` does not evaluate, and the kind of the other
     (b"01510/?S", 7, 0, [5, 0, 0, 0]),
-    (b"011nh?P10h1n?P211nl?P", 7, 2, [4294967295, 4294967295, -1, 0]),
+    (
+        b"011nh?P10h1n?P211nl?P",
+        7,
+        2,
+        [4294967295, 4294967295, -1, 0],
+    ),
     // A[0] += 1 for i from 2147483646 to 2147483647
     (b"g1-g01QE", 3, 0, [5, 0, 0, 0]),
     // the limit is not evaluated again: for (i = 0; i < A[0]; i++) A[0] += 1
