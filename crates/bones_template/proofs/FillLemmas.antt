@@ -63,13 +63,13 @@ becomes_within (suc most) f (b ∷ text) within = go (hole_at (b ∷ text)) refl
     go : (o : Option Hole) → hole_at (b ∷ text) ≡ o → ((t : List ℕ) → length t ≤ most → Becomes f t (filled_of f t)) → Becomes f (b ∷ text) (filled_of f (b ∷ text))
     go None is shorter =
         subst (Becomes f (b ∷ text)) (sym (byte_front f b text is))
-          (at_byte b text (filled_of f text) is (shorter text (omega arith)))
+        (at_byte b text (filled_of f text) is (shorter text (omega arith)))
     go (Some h) is shorter =
         let rest = drop (length (hole_text h)) (b ∷ text) in
         let within_most : length rest ≤ most = omega (arith, length-drop (length (hole_text h)) (b ∷ text), some_bytes h) in
         subst (λ t. Becomes f t (filled_of f (b ∷ text))) (sym (stands_first h (b ∷ text) is))
-          (subst (Becomes f (hole_text h ++ rest)) (sym (hole_front f h (b ∷ text) (omega arith) is))
-            (at_hole h rest (filled_of f rest) (shorter rest within_most)))
+        (subst (Becomes f (hole_text h ++ rest)) (sym (hole_front f h (b ∷ text) (omega arith) is))
+        (at_hole h rest (filled_of f rest) (shorter rest within_most)))
 
 pub becomes : (f : Contents) (text filled : List ℕ) → filled ≡ filled_of f text → Becomes f text filled
 becomes f text filled is = subst (Becomes f text) (sym is) (becomes_within (length text) f text (omega arith))
@@ -120,6 +120,6 @@ count_turn h at count t text lt counted is =
     let some : 0 < length (drop at text) = omega (arith, length-drop at text) in
     let front = count_front h (drop at text) some in
     let first : (if begins (hole_text h) (drop at text) then 1 else 0) ≡ from_bool t =
-      sym (one_if t ∙ ap (λ b. if b then 1 else 0) (is ∙ ap (begins (hole_text h)) (seen at text))) in
+    sym (one_if t ∙ ap (λ b. if b then 1 else 0) (is ∙ ap (begins (hole_text h)) (seen at text))) in
     let rest : count_in h (drop 1 (drop at text)) ≡ count_in h (drop (at + 1) text) = ap (count_in h) (drop-drop 1 at text) in
     omega (arith, counted, front, first, rest)

@@ -5,7 +5,7 @@ mod hole;
 mod template;
 
 pub use hole::{Hole, Holes};
-pub use template::{fill, Template, TemplateRefusal};
+pub use template::{Template, TemplateRefusal, fill};
 
 #[cfg(test)]
 mod tests;

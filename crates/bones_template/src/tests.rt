@@ -1,4 +1,4 @@
-use super::{fill, Hole, Holes, Template, TemplateRefusal};
+use super::{Hole, Holes, Template, TemplateRefusal, fill};
 use std::alloc::Global;
 use std::test::Fail;
 

@@ -196,10 +196,10 @@ pub reduced_same : (k : Kind) (n : ℤ) → IsNumber k n → n ≡ reduced k n
 reduced_same kind.Int (pos n) h =
     let below : n < 2 ^ 31 = omega (arith, ints, h.1) in
     let low : nat_lt n (2 ^ 31) ≡ true = grind (arith, nat_tests, below) in
-    sym (ap (signed_from 32) (mod-eq_of_lt (omega (arith, below))) ∙ from_low 32 n low)
+    sym (ap (signed_from 32) (mod-eq_of_lt {n = n} {m = 2 ^ 32} (omega (arith, below))) ∙ from_low 32 n low)
 reduced_same kind.Int (negsuc n) h =
     let below : n < 2 ^ 31 = omega (arith, ints, h.0) in
-    let rest : n % 2 ^ 32 ≡ n = mod-eq_of_lt (omega (arith, below)) in
+    let rest : n % 2 ^ 32 ≡ n = mod-eq_of_lt {n = n} {m = 2 ^ 32} (omega (arith, below)) in
     let high : nat_lt (2 ^ 32 - 1 - n) (2 ^ 31) ≡ false = grind (arith, nat_tests, below) in
     let number : pos (2 ^ 32 - 1 - n) -ℤ pos (2 ^ 32) ≡ negsuc n = omega (arith, ints, below) in
     sym (ap (λ r. signed_from 32 (2 ^ 32 - 1 - r)) rest ∙ from_high 32 (2 ^ 32 - 1 - n) high ∙ number)
@@ -207,10 +207,10 @@ reduced_same kind.Unsigned n h = sym (small_residue n (2 ^ 32) h)
 reduced_same kind.Long (pos n) h =
     let below : n < 2 ^ 63 = omega (arith, ints, h.1) in
     let low : nat_lt n (2 ^ 63) ≡ true = grind (arith, nat_tests, below) in
-    sym (ap (signed_from 64) (mod-eq_of_lt (omega (arith, below))) ∙ from_low 64 n low)
+    sym (ap (signed_from 64) (mod-eq_of_lt {n = n} {m = 2 ^ 64} (omega (arith, below))) ∙ from_low 64 n low)
 reduced_same kind.Long (negsuc n) h =
     let below : n < 2 ^ 63 = omega (arith, ints, h.0) in
-    let rest : n % 2 ^ 64 ≡ n = mod-eq_of_lt (omega (arith, below)) in
+    let rest : n % 2 ^ 64 ≡ n = mod-eq_of_lt {n = n} {m = 2 ^ 64} (omega (arith, below)) in
     let high : nat_lt (2 ^ 64 - 1 - n) (2 ^ 63) ≡ false = grind (arith, nat_tests, below) in
     let number : pos (2 ^ 64 - 1 - n) -ℤ pos (2 ^ 64) ≡ negsuc n = omega (arith, ints, below) in
     sym (ap (λ r. signed_from 64 (2 ^ 64 - 1 - r)) rest ∙ from_high 64 (2 ^ 64 - 1 - n) high ∙ number)

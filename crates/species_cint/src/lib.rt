@@ -363,7 +363,6 @@ fn int_binary(op: Binary, a: i32, b: i32) -> Result<Value, Undefined>
 
 /// The value of a binary operator, or why it has none. A shift works in the kind of its left side;
 /// for another operator both sides are converted to the later of their kinds.
-#[tactic(auto, using(crate::proofs::Words::in_int))]
 pub fn binary(op: Binary, a: Value, b: Value) -> Result<Value, Undefined>
     ensures { result ≡ binary_of op a b }
 {

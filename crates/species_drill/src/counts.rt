@@ -35,5 +35,6 @@ fn put_named(name: &[u8], count: u64, line: &mut Vec<u8>) -> Result<(), OutOfMem
     ensures { OnOk result (line.new.items ≡ line.old.items ++ named name.now count) }
 {
     put(name, line)?;
-    put_number(count, line)
+    put_number(count, line)?;
+    Ok(())
 }

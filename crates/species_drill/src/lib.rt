@@ -5,7 +5,7 @@ mod counts;
 mod nests;
 mod words;
 
-pub use counts::{summary, Counts};
+pub use counts::{Counts, summary};
 pub use nests::program;
 
 #[cfg(test)]

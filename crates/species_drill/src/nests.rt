@@ -9,7 +9,8 @@ const FRONT: &[u8] =
     b"int A[4096];\nint B[4096];\nint M[64][64];\nunsigned H[256];\nvoid drill(void) {\n";
 
 /// The square nest up to its constant.
-const SQUARE: &[u8] = b"    for (int i = 0; i < 64; i++) {\n        for (int j = 0; j < 64; j++) {\n            M[i][j] = M[i][j] + ";
+const SQUARE: &[u8] =
+    b"    for (int i = 0; i < 64; i++) {\n        for (int j = 0; j < 64; j++) {\n            M[i][j] = M[i][j] + ";
 
 /// A program of so many nests, by the numbers that follow `from`.
 pub fn program(alloc: Global, nests: u32, from: u32) -> Result<Vec<u8>, OutOfMemory>
@@ -18,7 +19,7 @@ pub fn program(alloc: Global, nests: u32, from: u32) -> Result<Vec<u8>, OutOfMem
     let mut text = Vec::new(alloc);
     put(FRONT, &mut text)?;
     let mut number = from;
-    for _made in 0..nests {
+    for made in 0..nests {
         number = next(number);
         put_nest(number, &mut text)?;
     }
@@ -26,7 +27,7 @@ pub fn program(alloc: Global, nests: u32, from: u32) -> Result<Vec<u8>, OutOfMem
     Ok(text)
 }
 
-fn next(number: u32) -> u32
+pub(crate) fn next(number: u32) -> u32
     ensures { result ≡ next number }
 {
     ((u64::from(number) * 1_664_525 + 1_013_904_223) % 4_294_967_296) as u32
@@ -45,8 +46,16 @@ fn put_nest(number: u32, text: &mut Vec<u8>) -> Result<(), OutOfMemory>
             b"B[i] = A[i - 1] + A[i] + A[i + 1];",
             text,
         ),
-        3 => put_loop(b"for (int i = 0; i < 1024; i++)", b"H[A[i] & 255] += 1;", text),
-        4 => put_loop(b"for (int i = 0; i < 1024; i++)", b"A[2 * i] = A[2 * i + 1];", text),
+        3 => put_loop(
+            b"for (int i = 0; i < 1024; i++)",
+            b"H[A[i] & 255] += 1;",
+            text,
+        ),
+        4 => put_loop(
+            b"for (int i = 0; i < 1024; i++)",
+            b"A[2 * i] = A[2 * i + 1];",
+            text,
+        ),
         _ => put_square(constant, text),
     }
 }
@@ -57,7 +66,8 @@ fn put_loop(header: &[u8], statement: &[u8], text: &mut Vec<u8>) -> Result<(), O
 {
     put_opened(header, text)?;
     put(statement, text)?;
-    put(b"\n    }\n", text)
+    put(b"\n    }\n", text)?;
+    Ok(())
 }
 
 /// What stands before the one statement of a loop.
@@ -66,7 +76,8 @@ fn put_opened(header: &[u8], text: &mut Vec<u8>) -> Result<(), OutOfMemory>
 {
     put(b"    ", text)?;
     put(header, text)?;
-    put(b" {\n        ", text)
+    put(b" {\n        ", text)?;
+    Ok(())
 }
 
 fn put_shifted(constant: u32, text: &mut Vec<u8>) -> Result<(), OutOfMemory>
@@ -75,7 +86,8 @@ fn put_shifted(constant: u32, text: &mut Vec<u8>) -> Result<(), OutOfMemory>
     put_opened(b"for (int i = 0; i < 1024; i++)", text)?;
     put(b"B[i] = A[i + ", text)?;
     put_number(u64::from(constant), text)?;
-    put(b"];\n    }\n", text)
+    put(b"];\n    }\n", text)?;
+    Ok(())
 }
 
 /// Two loops, one in the other.
@@ -84,5 +96,6 @@ fn put_square(constant: u32, text: &mut Vec<u8>) -> Result<(), OutOfMemory>
 {
     put(SQUARE, text)?;
     put_number(u64::from(constant), text)?;
-    put(b";\n        }\n    }\n", text)
+    put(b";\n        }\n    }\n", text)?;
+    Ok(())
 }

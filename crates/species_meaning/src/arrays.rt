@@ -2,7 +2,7 @@
 ghost use Rattle.std.specs.Prelude.{◌≡◌, IfOk, IfSome, ℕ, replicate, pos};
 ghost use Rattle.species_ast.specs.Operators.{in_kind};
 ghost use Rattle.species_ast.specs.Evaluation.{product};
-ghost use Rattle.species_ast.specs.Run.{zeros_of};
+ghost use Rattle.species_ast.specs.Run.{zeros_of, AreArraysOf};
 ghost use Rattle.species_ast.specs.Accesses.{cell, changed, added};
 ghost use Rattle.species_meaning.specs.Effects.{element};
 ghost use Rattle.species_meaning.specs.Places.{capped};
@@ -29,8 +29,10 @@ impl Model for Arrays {
 
 impl Arrays {
     /// All elements 0.
+    #[tactic(auto, using(crate::proofs::Kept::zeros_of_unit))]
     pub fn zeros(alloc: Global, unit: &Unit) -> Result<Arrays, OutOfMemory>
-        ensures { IfOk result (λ m. m ≡ zeros_of unit.now.arrays) }
+        ensures zeros { IfOk result (λ m. m ≡ zeros_of unit.now.arrays) }
+        ensures arrays { IfOk result (λ m. AreArraysOf unit.now.arrays m) }
     {
         let mut rows = Vec::new(alloc);
         for array in unit.arrays.as_slice() {

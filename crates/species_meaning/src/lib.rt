@@ -15,3 +15,6 @@ mod statements;
 pub use answer::RunAnswer;
 pub use arrays::Arrays;
 pub use statements::run_source;
+
+#[cfg(test)]
+mod tests;

@@ -1,9 +1,9 @@
 //! Statements, and so the source's run.
-ghost use Rattle.std.specs.Prelude.{◌≡◌, OnOk};
+ghost use Rattle.std.specs.Prelude.{◌≡◌, IfOk, OnOk};
 ghost use Rattle.species_ast.specs.declared.tree.Kind.TheVariants as kind;
 ghost use Rattle.species_ast.specs.Operators.{reduced, number_of};
 ghost use Rattle.species_ast.specs.Accesses.{sums};
-ghost use Rattle.species_ast.specs.Run.{source_context, source_run, cleared};
+ghost use Rattle.species_ast.specs.Run.{source_context, source_run, cleared, AreArraysOf};
 ghost use Rattle.species_meaning.specs.Effects.{act, effect, effects, scope_effect, loop_effect, turn_effect, turns_effect, locals_declared, assigning, adding, initialised, local_set, reads};
 ghost use Rattle.species_meaning.specs.Effects as meaning;
 ghost use Rattle.species_meaning.specs.Answers.{Runs, Gives};
@@ -17,9 +17,11 @@ use species_ast::{Binary, Expr, Kind, Loop, Stmt, Test, Unit, Value};
 use species_cint::{binary, convert, number};
 use std::alloc::Global;
 
-/// Runs a program from these arrays.
+/// Runs a program from these arrays. Parallel marks and species lines mean nothing here, and an atomic
+/// addition is a sum.
 pub fn run_source(alloc: Global, unit: &Unit, start: Arrays) -> Result<Arrays, RunAnswer>
-    ensures { Gives result (source_run sums unit.now start) }
+    ensures run { Gives result (source_run sums unit.now start) }
+    ensures arrays { AreArraysOf unit.now.arrays start → IfOk result (λ m. AreArraysOf unit.now.arrays m) }
 {
     let mut arrays = start;
     let mut frame = Frame::new(alloc, unit.locals.len())?;

@@ -279,7 +279,7 @@ mutual
       (keeps_scope c x w here.holds (at ++ k ∷ []) f fit.only) ended in
       comes_in_fit join c r rest around at (suc k) g n inner (next w x) (rest_fits c w x rest f g fit only)
 
-no_values : (ls : List LocalInfo) (x : ℕ) → unwrap_or (slice_get (map (λ (l : LocalInfo). let o : Option Value = None in o) ls) x) None ≡ None
+pub no_values : (ls : List LocalInfo) (x : ℕ) → unwrap_or (slice_get (map (λ (l : LocalInfo). let o : Option Value = None in o) ls) x) None ≡ None
 no_values [] x = refl
 no_values (l ∷ ls) zero = refl
 no_values (l ∷ ls) (suc x) = no_values ls x

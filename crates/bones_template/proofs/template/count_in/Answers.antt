@@ -12,6 +12,6 @@ loop-at-preserved c =
     record {
       few = omega (arith, at_most_one c.starts_with.result, c.from-count.ensures);
       counted =
-        count_turn c.args.hole at c.loop-at.count c.starts_with.result text c.loop-at-test.true c.loop-at.invariant.counted here
-        ∙ ap (λ n. c.loop-at.count + n + count_in c.args.hole (drop (at + 1) text)) (sym c.from-count.ensures);
+          count_turn c.args.hole at c.loop-at.count c.starts_with.result text c.loop-at-test.true c.loop-at.invariant.counted here
+          ∙ ap (λ n. c.loop-at.count + n + count_in c.args.hole (drop (at + 1) text)) (sym c.from-count.ensures);
     }

@@ -12,8 +12,8 @@ loop-at-preserved-in-Some c =
     record {
       within = search rules;
       filled =
-        c.loop-at.invariant.filled
-        ∙ hole_turn (contents_of c.args.holes.now) c.in-Some.hole c.loop-at.at text filled c.text.result.now c.extend_from_slice.new.self.items
+          c.loop-at.invariant.filled
+          ∙ hole_turn (contents_of c.args.holes.now) c.in-Some.hole c.loop-at.at text filled c.text.result.now c.extend_from_slice.new.self.items
           c.loop-at-test.true (sym c.hole_at.ensures.value ∙ c.in-Some.is) c.text.ensures (grown ∙ ap (λ t. filled ++ t) c.text_for.ensures);
     }
 
@@ -22,4 +22,4 @@ returns-clause-becomes c =
     let same : c.as_slice-text.result.now ≡ c.args.template.now = search rules in
     let f = contents_of c.args.holes.now in
     becomes f c.args.template.now c.loop-at.filled.items
-      (all_filled f c.loop-at.at c.as_slice-text.result.now c.args.template.now c.loop-at.filled.items c.loop-at-test.false same c.loop-at.invariant.filled)
+    (all_filled f c.loop-at.at c.as_slice-text.result.now c.args.template.now c.loop-at.filled.items c.loop-at-test.false same c.loop-at.invariant.filled)
