@@ -13,3 +13,4 @@ pub mod RegularLaws
 pub mod PositionLaws
 pub mod NestLaws
 pub mod LocationLaws
+pub mod RunningTaken
