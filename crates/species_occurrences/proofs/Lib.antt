@@ -19,3 +19,4 @@ pub mod UnitLaws
 pub mod SurelyLaws
 pub mod SurelyExpressions
 pub mod ReachedLaws
+pub mod SurelySimple

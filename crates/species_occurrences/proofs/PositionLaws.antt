@@ -87,7 +87,7 @@ stated_condition : (a : Elements) → IsStated a → IsStated (on_condition a)
 stated_condition a h g n =
     each_weaker (IsOf (perhaps g)) (IsOf g) (λ r o. record { statement = o.statement; path = o.path; conditional = λ _. o.conditional refl }) (a.references (perhaps g) n) (h (perhaps g) n)
 
-stated_all : (es : List Expr) → Each (λ x. IsStated (elements_of x)) es → IsStated (all_elements (map elements_of es))
+pub stated_all : (es : List Expr) → Each (λ x. IsStated (elements_of x)) es → IsStated (all_elements (map elements_of es))
 stated_all [] h = λ g n. tt
 stated_all (x ∷ es) h = stated_then (elements_of x) (all_elements (map elements_of es)) h.0 (stated_all es h.1)
 
