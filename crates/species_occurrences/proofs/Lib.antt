@@ -20,3 +20,4 @@ pub mod SurelyLaws
 pub mod SurelyExpressions
 pub mod ReachedLaws
 pub mod SurelySimple
+pub mod SurelyStatements
