@@ -1,27 +1,23 @@
 -- In each iteration of a running that ended, the accesses are made by the references of the nest, and each reference that is not
 -- conditional makes one.
-use Rattle.std.proofs.Common.{◌≡◌, refl, ap, sym, ◌∙◌, subst, ℕ, true, false, List, [], ◌∷◌, ◌++◌, map, length, ℤ, All}
+use Rattle.std.proofs.Common.{◌≡◌, refl, ap, sym, ◌∙◌, subst, ℕ, true, List, [], ◌∷◌, ◌++◌, length, ℤ, All}
 use Rattle.std.specs.List.{Contains}
 use Rattle.species_ast.specs.declared.tree.Loop.{Loop, out-Loop}
 use Rattle.species_ast.specs.declared.tree.Stmt.TheVariants as stmt
-use Rattle.species_ast.specs.declared.tree.Unit.{Unit as Program}
-use Rattle.species_ast.specs.Accesses.{Joins, Cells, Access, Ended, run, accesses}
+use Rattle.species_ast.specs.Accesses.{accesses}
 use Rattle.species_ast.specs.Evaluation.{Frame, Context, sizes_of}
-use Rattle.species_ast.specs.Run.{loop_of, does_scope, source_context}
+use Rattle.species_ast.specs.Run.{does_scope, source_context}
 use Rattle.species_ast.specs.Scope.Hulls.{Range, range_of}
-use Rattle.species_ast.specs.Scope.References.{Reference, Adding, list_references, stmt_references, references_of}
-use Rattle.species_ast.specs.Scope.WellMade.{IsWellMade}
+use Rattle.species_ast.specs.Scope.References.{Adding, references_of}
 use Rattle.species_runs.specs.Every.{Every}
 use Rattle.species_runs.proofs.EveryLaws.{every_access}
-use Rattle.species_nests.specs.Arrivals.{Running, ComesTo}
-use Rattle.species_nests.specs.Meetings.{Ran, iterations_in}
 use Rattle.species_nests.specs.Nests.{nest_of}
 use Rattle.species_nests.proofs.RunningLaws.{loops_of_nest, iterations_did}
-use Rattle.species_occurrences.specs.Iterators.{AreInts, AreTaken, AreTheirs, ranges_of}
+use Rattle.species_occurrences.specs.Iterators.{AreInts, AreTaken, ranges_of}
 use Rattle.species_occurrences.specs.Made.{IsMade}
 use Rattle.species_occurrences.specs.Regular.{as_marked, is_regular}
-use Rattle.species_occurrences.specs.Surely.{IsDoneAt, IsOneOf, AreConstant}
-use Rattle.species_occurrences.specs.Law.{nest_references_of, loops_around_body, IsDoneInIteration, IsIteration, IterationsAreMade}
+use Rattle.species_occurrences.specs.Surely.{IsDoneAt}
+use Rattle.species_occurrences.specs.Law.{nest_references_of, IterationsAreMade}
 use Rattle.species_occurrences.proofs.HeaderLaws.{HasIters}
 use Rattle.species_occurrences.proofs.NestLaws.{unconditional}
 use Rattle.species_occurrences.proofs.NestReferences.{nest_references, nest_bounded, nest_regular, each_loop, each_both}
@@ -74,8 +70,11 @@ iterations_made join u m r d end last well_made comes ended x c =
       taken = theirs;
       made = subst (All P) (sym did.are) all;
       done = λ q one always.
-          let u = nest_fulfilled w as_marked d r.loop r.at path around.1 q one always in
-          (u.0, u.1 ∙ ap (λ p. p ++ u.0) (sym (ranges_append [] r.around loops)), λ rest constant turning.
-          let has = surely_has join (IsDoneAt sizes (x.frame.iters ++ rest) q) (does x.frame) did.arrays did.end did.last (u.2 x.frame.iters rest taken theirs.1 constant turning x.frame refl) did.ended in
-          (has.0, subst (λ xs. Contains xs has.0) (sym did.are) has.1, has.2));
+          let u = nest_fulfilled w as_marked d r.loop r.at path around.1 q one always in (
+            u.0,
+            u.1 ∙ ap (λ p. p ++ u.0) (sym (ranges_append [] r.around loops)),
+            λ rest constant turning.
+                let has = surely_has join (IsDoneAt sizes (x.frame.iters ++ rest) q) (does x.frame) did.arrays did.end did.last (u.2 x.frame.iters rest taken theirs.1 constant turning x.frame refl) did.ended in
+                (has.0, subst (λ xs. Contains xs has.0) (sym did.are) has.1, has.2),
+          );
     }

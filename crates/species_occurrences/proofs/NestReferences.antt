@@ -1,34 +1,28 @@
 -- The references of a nest are those of its body, and all accesses of an iteration are made by them.
 use Rattle.std.proofs.Common.{◌≡◌, refl, ap, sym, ◌∙◌, subst, arith, ℕ, zero, suc, ◌-◌, Bool, true, false, List, [], ◌∷◌, ◌++◌, map, length, ℤ, Option, Some, None}
-use Rattle.std.specs.List.{Contains}
 use Rattle.std.proofs.lemmas.Bool.{and_parts}
 use Rattle.std.proofs.lemmas.List.{append-nil}
 use Rattle.species_ast.specs.declared.tree.Loop.{Loop, out-Loop, roll-Loop}
 use Rattle.species_ast.specs.declared.tree.Stmt.{Stmt}
 use Rattle.species_ast.specs.declared.tree.Stmt.TheVariants as stmt
-use Rattle.species_ast.specs.declared.tree.Unit.{Unit as Program}
 use Rattle.species_ast.specs.Marks.{all_true}
-use Rattle.species_ast.specs.Accesses.{Joins, Cells, Ended, run}
 use Rattle.species_ast.specs.Evaluation.{Frame, Context, sizes_of}
-use Rattle.species_ast.specs.Run.{Takes, iteration, loop_of, source_context}
+use Rattle.species_ast.specs.Run.{Takes, iteration}
 use Rattle.species_ast.specs.Scope.Hulls.{Range, range_of}
 use Rattle.species_ast.specs.Scope.References.{Where, Adding, list_references, references_at, references_inside, stmt_references, loop_references, references_of}
-use Rattle.species_ast.specs.Scope.WellMade.{IsWellMade}
 use Rattle.species_ast.proofs.Folds.{fold_stmt-For, fold_stmt-Block, fold_loop-out}
 use Rattle.species_ast.proofs.Induction.{Each, each_all, stmt_ind}
 use Rattle.species_ast.proofs.Paras.{para_stmt-Assign, para_stmt-AddTo, para_stmt-Declare, para_stmt-SetLocal, para_stmt-If}
 use Rattle.species_runs.specs.Every.{Every}
-use Rattle.species_nests.specs.Arrivals.{Running, ComesTo}
-use Rattle.species_nests.specs.Meetings.{Ran, iterations_in}
 use Rattle.species_nests.specs.Nests.{Placed, sole, sole_at, only, Nest, nest_in, nest_of}
 use Rattle.species_nests.proofs.NestLaws.{not_some, no_loops, sole-For, sole-Block, under}
-use Rattle.species_nests.proofs.RunningLaws.{loops_of_nest, iterations_did}
-use Rattle.species_occurrences.specs.Iterators.{AreInts, AreTaken, AreTheirs, ranges_of}
+use Rattle.species_nests.proofs.RunningLaws.{loops_of_nest}
+use Rattle.species_occurrences.specs.Iterators.{AreInts, AreTaken, ranges_of}
 use Rattle.species_occurrences.specs.Made.{IsMade}
-use Rattle.species_occurrences.specs.Regular.{as_marked, regular_at, regular_loop, is_regular}
+use Rattle.species_occurrences.specs.Regular.{regular_at, regular_loop, is_regular}
 use Rattle.species_occurrences.proofs.HeaderLaws.{HasIters}
 use Rattle.species_occurrences.proofs.NestLaws.{unconditional, iteration_made}
-use Rattle.species_occurrences.proofs.RunningTaken.{IsBounded, AreIterators, goes_inside, loop_regular, running_bounded, running_iterators}
+use Rattle.species_occurrences.proofs.RunningTaken.{IsBounded, loop_regular}
 
 -- ---- the sole loop of a statement
 

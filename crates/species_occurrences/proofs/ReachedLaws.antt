@@ -1,5 +1,5 @@
 -- A loop with constant bounds comes to each value that its range allows.
-use Rattle.std.proofs.Common.{◌≡◌, refl, ap, sym, ◌∙◌, subst, arith, ℕ, zero, suc, ◌*◌, ◌/◌, ◌<◌, ◌≤◌, Bool, true, false, ◌&&◌, if◌then◌else◌, List, ℤ, pos, negsuc, ◌+ℤ◌, ◌-ℤ◌, ◌*ℤ◌, ◌<ℤ◌, ◌≤ℤ◌, Option, Some, None, ◌⊎◌, inl, inr}
+use Rattle.std.proofs.Common.{◌≡◌, refl, ap, sym, ◌∙◌, subst, arith, ℕ, suc, ◌/◌, ◌<◌, ◌≤◌, Bool, true, false, ◌&&◌, if◌then◌else◌, List, ℤ, pos, negsuc, ◌-ℤ◌, ◌<ℤ◌, ◌≤ℤ◌, Some, None, ◌⊎◌, inl, inr}
 use Rattle.std.specs.Prelude.{slice_get, int_le, unsigned_abs, is_some}
 use Rattle.std.proofs.lemmas.Int.{ints}
 use Rattle.std.proofs.Math.Nat.{div-mul-le_self}
@@ -8,7 +8,7 @@ use Rattle.species_ast.specs.declared.tree.Test.{Test}
 use Rattle.species_ast.specs.declared.tree.Test.TheVariants.{Lt, Le, Gt, Ge}
 use Rattle.species_ast.specs.Run.{distance, pace, turns_in, iterator_values}
 use Rattle.species_ast.specs.Scope.Forms.{Form, form_of, is_constant, form_value}
-use Rattle.species_ast.specs.Scope.Hulls.{Range, has_empty, last_form, last_value, fixed_range, wide_range, no_range, start_constant, range_between, form_or_zero, range_of}
+use Rattle.species_ast.specs.Scope.Hulls.{Range, has_empty, last_form, last_value, fixed_range, wide_range, no_range, range_between, form_or_zero, range_of}
 use Rattle.species_ast.specs.Scope.Limits.{goes}
 use Rattle.species_ast.proofs.IteratorLaws.{Passes, in_turn, turns_end, counted_at}
 use Rattle.species_occurrences.specs.Iterators.{IsCounted, MayTake}

@@ -1,11 +1,11 @@
 -- Each reference of an expression that is not conditional makes an access on each way that comes to its end.
-use Rattle.std.proofs.Common.{◌≡◌, refl, ap, sym, subst, ℕ, suc, ◌+◌, Bool, true, List, [], ◌∷◌, ◌++◌, map, ℤ, ◌⊎◌, inl, inr}
+use Rattle.std.proofs.Common.{◌≡◌, refl, ap, sym, subst, ℕ, ◌+◌, true, List, [], ◌∷◌, ◌++◌, map, inl, inr}
 use Rattle.species_ast.specs.declared.tree.Expr.{Expr}
 use Rattle.species_ast.specs.declared.tree.Expr.TheOpen.{Expr-F}
 use Rattle.species_ast.specs.Accesses.{Access, Reads, Tree, Ret, Read, then_do}
 use Rattle.species_ast.specs.Evaluation.{Frame, Context, Spot, Sense, sense, sense_at, sizes_of, site_at, element_at, elements_in, values_of, target_of}
 use Rattle.species_ast.specs.Scope.Forms.{form_of}
-use Rattle.species_ast.specs.Scope.References.{Where, Reference, reference, perhaps, Elements, no_elements, then_elements, on_condition, all_elements, element_with, elements_at, elements_of}
+use Rattle.species_ast.specs.Scope.References.{Where, Reference, reference, perhaps, Elements, no_elements, all_elements, element_with, elements_at, elements_of}
 use Rattle.species_ast.proofs.Induction.{Each, each_all, expr_ind}
 use Rattle.species_ast.proofs.Paras.{para_expr-Literal, para_expr-Iter, para_expr-Local, para_expr-Unary, para_expr-Binary, para_expr-And, para_expr-Or, para_expr-Cond, para_expr-Cast}
 use Rattle.species_ast.proofs.ReferenceLaws.{elements_of-Elem}

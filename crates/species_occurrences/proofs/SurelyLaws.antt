@@ -1,5 +1,5 @@
 -- Laws of what holds of some access on each way to the end.
-use Rattle.std.proofs.Common.{◌≡◌, refl, sym, ◌∙◌, subst, arith, ℕ, zero, Bool, true, false, if◌then◌else◌, List, [], ◌∷◌, ◌++◌, ℤ, ◌⊎◌, inl, inr, ⊎_elim}
+use Rattle.std.proofs.Common.{◌≡◌, refl, sym, ◌∙◌, subst, arith, ℕ, Bool, true, false, if◌then◌else◌, List, [], ◌∷◌, ◌++◌, ℤ, ◌⊎◌, inl, inr, ⊎_elim}
 use Rattle.std.specs.List.{Contains}
 use Rattle.species_ast.specs.Accesses.{Joins, Cells, cell, Access, access, Reads, Writes, Adds, Tree, Ret, Stop, Read, Write, Add, then_do, Ended, run, accesses}
 use Rattle.species_ast.specs.Scope.References.{Reference}

@@ -1,14 +1,14 @@
 -- Each reference of a simple statement that is not conditional makes an access.
-use Rattle.std.proofs.Common.{◌≡◌, refl, sym, subst, ℕ, suc, Bool, true, false, if◌then◌else◌, List, [], ◌∷◌, ◌++◌, map, ℤ, Option, Some, None, inl, inr, ⊎_elim}
+use Rattle.std.proofs.Common.{refl, sym, subst, ℕ, suc, Bool, true, false, if◌then◌else◌, List, [], ◌∷◌, ◌++◌, map, ℤ, Option, Some, None, inl, inr, ⊎_elim}
 use Rattle.species_ast.specs.declared.tree.Binary.TheVariants as binary
 use Rattle.species_ast.specs.declared.tree.Expr.{Expr}
 use Rattle.species_ast.specs.declared.tree.Value.{Value}
 use Rattle.species_ast.specs.Operators.{converted, binary_of}
-use Rattle.species_ast.specs.Accesses.{Forbidden, Access, access, Direction, Reads, Writes, Adds, Tree, Ret, Stop, Read, Write, Add, then_do}
+use Rattle.species_ast.specs.Accesses.{Forbidden, access, Direction, Reads, Writes, Adds, Tree, Ret, Stop, Write, Add, then_do}
 use Rattle.species_ast.specs.Evaluation.{Frame, Context, Spot, sense, array_kind, local_kind, with_local, answered, sizes_of, site_at, element_at, values_of, target_of, elements_in}
 use Rattle.species_ast.specs.Run.{assignment, addition, adding, initial, declaring, setting}
 use Rattle.species_ast.specs.Scope.Forms.{form_of}
-use Rattle.species_ast.specs.Scope.References.{Where, Reference, subscripts, elements_of, target_reference, value_references, addition_references, init_references}
+use Rattle.species_ast.specs.Scope.References.{Where, subscripts, elements_of, target_reference, value_references, addition_references, init_references}
 use Rattle.species_ast.proofs.Induction.{Each, each_all}
 use Rattle.species_runs.specs.Every.{Anything}
 use Rattle.species_occurrences.specs.Made.{IsMade}

@@ -1,14 +1,12 @@
 -- Each reference of a statement that is not conditional makes an access in each turn of the loops around it inside the statement,
 -- where the bounds of these are constant, on each way that comes to its end.
-use Rattle.std.proofs.Common.{◌≡◌, refl, ap, sym, ◌∙◌, subst, ℕ, zero, suc, ◌-◌, Bool, true, false, ◌&&◌, if◌then◌else◌, List, [], ◌∷◌, ◌++◌, map, length, ℤ, Option, Some, None, ◌⊎◌, inl, inr}
+use Rattle.std.proofs.Common.{◌≡◌, refl, ap, sym, ◌∙◌, subst, ℕ, zero, suc, ◌-◌, Bool, true, false, ◌&&◌, if◌then◌else◌, List, [], ◌∷◌, ◌++◌, map, length, ℤ, Some, ◌⊎◌, inl, inr}
 use Rattle.std.specs.Prelude.{is_some, slice_get, unwrap_or}
 use Rattle.std.proofs.lemmas.Bool.{and_parts}
-use Rattle.std.proofs.lemmas.List.{length-map, append_assoc, append-nil}
-use Rattle.species_ast.specs.declared.tree.Expr.{Expr}
+use Rattle.std.proofs.lemmas.List.{append_assoc, append-nil}
 use Rattle.species_ast.specs.declared.tree.Loop.{Loop, roll-Loop}
 use Rattle.species_ast.specs.declared.tree.Stmt.{Stmt}
-use Rattle.species_ast.specs.declared.tree.Stmt.TheOpen.{Stmt-F, Loop-F}
-use Rattle.species_ast.specs.declared.tree.Stmt.TheVariants as stmt
+use Rattle.species_ast.specs.declared.tree.Stmt.TheOpen.{Loop-F}
 use Rattle.species_ast.specs.Marks.{all_true}
 use Rattle.species_ast.specs.Accesses.{Access, Tree, Ret, then_do}
 use Rattle.species_ast.specs.Evaluation.{Frame, Context, sense, sizes_of}
@@ -20,7 +18,7 @@ use Rattle.species_ast.specs.Scope.References.{Where, Reference, perhaps, placed
 use Rattle.species_ast.proofs.Folds.{fold_stmt-Assign, fold_stmt-AddTo, fold_stmt-Declare, fold_stmt-SetLocal, fold_stmt-If, fold_stmt-For, fold_stmt-Block, fold_loop}
 use Rattle.species_ast.proofs.Induction.{Each, each_all, stmt_ind}
 use Rattle.species_ast.proofs.RunLaws.{step-Assign, step-AddTo, step-Declare, step-SetLocal, step-If, step-For, step-Block, loop-roll}
-use Rattle.species_runs.specs.Every.{Every, Anything}
+use Rattle.species_runs.specs.Every.{Anything}
 use Rattle.species_nests.specs.Arrivals.{heading}
 use Rattle.species_nests.proofs.ArrivalLaws.{looping_is}
 use Rattle.species_occurrences.specs.Iterators.{IsInt, AreInts, MayTake, AreTaken}
@@ -29,7 +27,7 @@ use Rattle.species_occurrences.specs.Regular.{regular_at, regular_loop, is_regul
 use Rattle.species_occurrences.specs.Surely.{Surely, IsDoneAt, IsOneOf, AreConstant}
 use Rattle.species_occurrences.proofs.HeaderLaws.{HasIters, HasBounds, AllTaken, header_is}
 use Rattle.species_occurrences.proofs.PositionLaws.{each_append, each_weaker, IsOf, stated}
-use Rattle.species_occurrences.proofs.ReachedLaws.{IsReached, reached}
+use Rattle.species_occurrences.proofs.ReachedLaws.{reached}
 use Rattle.species_occurrences.proofs.StatementLaws.{stmt_made, bounds_of, agreed}
 use Rattle.species_occurrences.proofs.SurelyExpressions.{quiet}
 use Rattle.species_occurrences.proofs.SurelyLaws.{surely_first, surely_second, one_of_append, each_one, AreSure, sure_first}
@@ -137,10 +135,13 @@ list_fulfilled w adds (x ∷ xs) h t g k band =
     before z here rs ((step w x).does here.statement) (λ f. does_list w xs g.statement (suc k)) (h.0 parts.0 here band) in
     let rest = list_fulfilled w adds xs h.1 parts.1 g (suc k) band in
     fulfilled_append z g rs ps (does_list w (x ∷ xs) g.statement k) first (λ r one c.
-    let u = rest r one c in
-    (u.0, u.1, λ iters more taken ints constant turns f p.
-    surely_second (IsDoneAt z (iters ++ more) r) (IsMade z iters rs) (HasIters iters) ((step w x).does here.statement f) (does_list w xs g.statement (suc k))
-    (stmt_made w adds x parts.0 here.statement here iters band (refl, taken, ints) f p) (λ e q. u.2 iters more taken ints constant turns e q)))
+    let u = rest r one c in (
+      u.0,
+      u.1,
+      λ iters more taken ints constant turns f p.
+          surely_second (IsDoneAt z (iters ++ more) r) (IsMade z iters rs) (HasIters iters) ((step w x).does here.statement f) (does_list w xs g.statement (suc k))
+          (stmt_made w adds x parts.0 here.statement here iters band (refl, taken, ints) f p) (λ e q. u.2 iters more taken ints constant turns e q),
+    ))
 
 scope_fulfilled : (w : Context) (adds : Adding) (xs : List Stmt) → Each (IsStmtFulfilled w adds) xs → all_true (map (is_regular adds) xs) ≡ true → (g : Where) (k band : ℕ)
     → AreFulfilled (sizes_of w) g (list_references (map (stmt_references adds) xs) g k band) (does_scope w xs g.statement k)
@@ -200,9 +201,12 @@ loop_fulfilled w adds l h t g band r one c =
     let inner = in_turn g l in
     let found = list_references (map (stmt_references adds) l.body) inner 0 (band - 1) in
     let body = does_scope w l.body g.statement 0 in
-    let u = scope_fulfilled w adds l.body h asked.1 inner 0 (band - 1) r (kept_one band inner.path found r one) c in
-    (range_of g.path l ∷ u.0, u.1 ∙ append_assoc g.path (range_of g.path l ∷ []) u.0, λ iters rest taken ints constant turning f p.
-    subst (Surely (IsDoneAt (sizes_of w) (iters ++ rest) r)) (sym (loop-roll w l g.statement f)) (looping_done w l asked.0 body g u.0 r u.2 iters rest taken ints constant turning f p))
+    let u = scope_fulfilled w adds l.body h asked.1 inner 0 (band - 1) r (kept_one band inner.path found r one) c in (
+      range_of g.path l ∷ u.0,
+      u.1 ∙ append_assoc g.path (range_of g.path l ∷ []) u.0,
+      λ iters rest taken ints constant turning f p.
+          subst (Surely (IsDoneAt (sizes_of w) (iters ++ rest) r)) (sym (loop-roll w l g.statement f)) (looping_done w l asked.0 body g u.0 r u.2 iters rest taken ints constant turning f p),
+    )
 
 -- ---- each statement
 
