@@ -22,3 +22,4 @@ pub mod ReachedLaws
 pub mod SurelySimple
 pub mod SurelyStatements
 pub mod IterationLaws
+pub mod AnywhereLaws

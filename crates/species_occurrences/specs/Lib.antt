@@ -4,3 +4,4 @@ pub mod Made
 pub mod Regular
 pub mod Law
 pub mod Surely
+pub mod Anywhere
