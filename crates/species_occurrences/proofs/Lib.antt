@@ -1,0 +1,13 @@
+pub mod Numbers
+pub mod FormLaws
+pub mod RangeLaws
+pub mod TakenLaws
+pub mod AffineLaws
+pub mod MadeLaws
+pub mod ExpressionLaws
+pub mod BareLaws
+pub mod HeaderLaws
+pub mod SimpleLaws
+pub mod StatementLaws
+pub mod RegularLaws
+pub mod PositionLaws

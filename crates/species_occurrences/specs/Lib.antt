@@ -1,0 +1,4 @@
+pub mod Iterators
+pub mod Affine
+pub mod Made
+pub mod Regular
