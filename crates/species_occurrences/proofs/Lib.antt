@@ -11,3 +11,6 @@ pub mod SimpleLaws
 pub mod StatementLaws
 pub mod RegularLaws
 pub mod PositionLaws
+pub mod NestLaws
+pub mod LocationLaws
+pub mod RunningTaken

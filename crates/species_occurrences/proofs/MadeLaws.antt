@@ -1,7 +1,7 @@
 -- Laws of what is made by a list of references.
 use Rattle.std.proofs.Common.{◌≡◌, ◌∙◌, ℕ, List, [], ◌∷◌, ◌++◌, ℤ, inl, inr}
 use Rattle.std.proofs.lemmas.List.{append_assoc}
-use Rattle.species_ast.specs.Accesses.{Access, Tree, then_do}
+use Rattle.species_ast.specs.Accesses.{Access, Tree, Ret, Stop, Read, Write, Add, then_do}
 use Rattle.species_ast.specs.Scope.References.{Reference}
 use Rattle.species_runs.specs.Every.{Every}
 use Rattle.species_runs.proofs.EveryLaws.{every-then_do, every_weaker}
@@ -34,3 +34,11 @@ every_then sizes iters rs ps Q R t next h after =
 
 pub begins_outer : (iters : List ℤ) (i : ℤ) (whole : List ℤ) → Begins (iters ++ i ∷ []) whole → Begins iters whole
 begins_outer iters i whole h = (i ∷ h.0, h.1 ∙ append_assoc iters (i ∷ []) h.0)
+
+-- what holds for each number holds for all of them at once
+pub every_all : {X : Type 0} (P : ℕ → Access → Type 0) (Q : X → Type 0) (t : Tree X) → ((n : ℕ) → Every (P n) Q t) → Every (λ a. (n : ℕ) → P n a) Q t
+every_all P Q (Ret x) h = h 0
+every_all P Q (Stop s why) h = tt
+every_all P Q (Read s e more) h = λ v. (λ n. (h n v).0, every_all P Q (more v) (λ n. (h n v).1))
+every_all P Q (Write s e v more) h = (λ n. (h n).0, every_all P Q more (λ n. (h n).1))
+every_all P Q (Add s e v more) h = (λ n. (h n).0, every_all P Q more (λ n. (h n).1))
