@@ -2,15 +2,17 @@
 use Rattle.std.proofs.Common.{◌≡◌, ap, sym, ◌∙◌, refl, arith, unsigned_abs, ◌-ℤ◌, ◌*ℤ◌, ◌^◌, ◌/◌, ◌<◌, ◌≤◌, ◌≤ℤ◌, ◌<ℤ◌, pos, negsuc, neg_ℤ, ℕ, zero, suc, ℤ, Bool, true, false, FitsSigned, to_z, of_z, Ok, Err}
 use Rattle.std.specs.Int.{w128}
 use Rattle.std.proofs.Math.Nat.{div-le_self, mod-eq_of_lt, mod-lt, mod-le, mul-le-mul, pow-le-pow_right}
-use Rattle.std.specs.Prelude.{int_div, int_rem, ◌%◌, ◌*◌, ◌-◌, if◌then◌else◌}
+use Rattle.std.specs.Prelude.{nat_lt, int_div, int_rem, ◌%◌, ◌*◌, ◌-◌, if◌then◌else◌}
 use Rattle.std.specs.Ordering.{int_eq}
 use Rattle.std.proofs.lemmas.Bool.Decides.{nat_tests}
 use Rattle.std.proofs.lemmas.Int.{ints, to_z_pos, fits_signed_mul, fits_signed_from_abs, quot-rem}
 use Rattle.species_ast.specs.declared.tree.Kind.{Kind}
 use Rattle.species_ast.specs.declared.tree.Kind.TheVariants as kind
 use Rattle.species_ast.specs.declared.tree.Value.{Value}
+use Rattle.species_ast.specs.declared.tree.Value.TheVariants.{Int}
+use Rattle.species_ast.specs.declared.tree.Binary.{Binary}
 use Rattle.species_ast.specs.declared.trap.Undefined.TheVariants.{Overflow, DivZero}
-use Rattle.species_ast.specs.Operators.{Answer, is_signed, number_of, in_kind, fits, residue, bits_in, from_bits, bits_of, is_count, exact_in, quotient, remainder}
+use Rattle.species_ast.specs.Operators.{Answer, is_signed, number_of, in_kind, fits, residue, bits_in, from_bits, bits_of, is_count, exact_in, quotient, remainder, reduced, signed_from, is_shift, binary_in, binary_of}
 use Rattle.species_cint.specs.Ranges.{IsNumber}
 
 -- ---- sizes
@@ -180,3 +182,44 @@ on_bits f below k a b x y is_x is_y =
     let small : f m n < 2 ^ 127 = omega (arith, below m n (bits_below k a) (bits_below k b)) in
     (λ i. from_bits k (unsigned_abs (to_z w128 (f (of_z w128 (is_x i)) (of_z w128 (is_y i))))))
     ∙ ap (λ z. from_bits k (unsigned_abs z)) (to_z_pos w128 (f m n) small)
+
+-- ---- numbers that a kind has
+
+-- bits below the half of the width stand for a number from 0 on, others for one below 0
+from_low : (w b : ℕ) → nat_lt b (2 ^ (w - 1)) ≡ true → signed_from w b ≡ pos b
+from_low w b h = ap (λ t. if t then pos b else pos b -ℤ pos (2 ^ w)) h
+
+from_high : (w b : ℕ) → nat_lt b (2 ^ (w - 1)) ≡ false → signed_from w b ≡ pos b -ℤ pos (2 ^ w)
+from_high w b h = ap (λ t. if t then pos b else pos b -ℤ pos (2 ^ w)) h
+
+pub reduced_same : (k : Kind) (n : ℤ) → IsNumber k n → n ≡ reduced k n
+reduced_same kind.Int (pos n) h =
+    let below : n < 2 ^ 31 = omega (arith, ints, h.1) in
+    let low : nat_lt n (2 ^ 31) ≡ true = grind (arith, nat_tests, below) in
+    sym (ap (signed_from 32) (mod-eq_of_lt {n = n} {m = 2 ^ 32} (omega (arith, below))) ∙ from_low 32 n low)
+reduced_same kind.Int (negsuc n) h =
+    let below : n < 2 ^ 31 = omega (arith, ints, h.0) in
+    let rest : n % 2 ^ 32 ≡ n = mod-eq_of_lt {n = n} {m = 2 ^ 32} (omega (arith, below)) in
+    let high : nat_lt (2 ^ 32 - 1 - n) (2 ^ 31) ≡ false = grind (arith, nat_tests, below) in
+    let number : pos (2 ^ 32 - 1 - n) -ℤ pos (2 ^ 32) ≡ negsuc n = omega (arith, ints, below) in
+    sym (ap (λ r. signed_from 32 (2 ^ 32 - 1 - r)) rest ∙ from_high 32 (2 ^ 32 - 1 - n) high ∙ number)
+reduced_same kind.Unsigned n h = sym (small_residue n (2 ^ 32) h)
+reduced_same kind.Long (pos n) h =
+    let below : n < 2 ^ 63 = omega (arith, ints, h.1) in
+    let low : nat_lt n (2 ^ 63) ≡ true = grind (arith, nat_tests, below) in
+    sym (ap (signed_from 64) (mod-eq_of_lt {n = n} {m = 2 ^ 64} (omega (arith, below))) ∙ from_low 64 n low)
+reduced_same kind.Long (negsuc n) h =
+    let below : n < 2 ^ 63 = omega (arith, ints, h.0) in
+    let rest : n % 2 ^ 64 ≡ n = mod-eq_of_lt {n = n} {m = 2 ^ 64} (omega (arith, below)) in
+    let high : nat_lt (2 ^ 64 - 1 - n) (2 ^ 63) ≡ false = grind (arith, nat_tests, below) in
+    let number : pos (2 ^ 64 - 1 - n) -ℤ pos (2 ^ 64) ≡ negsuc n = omega (arith, ints, below) in
+    sym (ap (λ r. signed_from 64 (2 ^ 64 - 1 - r)) rest ∙ from_high 64 (2 ^ 64 - 1 - n) high ∙ number)
+reduced_same kind.UnsignedLong n h = sym (small_residue n (2 ^ 64) h)
+
+-- on two values of `int` an operator works in `int`
+pub in_int : (op : Binary) (a b : ℤ) → IsNumber kind.Int a → IsNumber kind.Int b → binary_in kind.Int op a b ≡ binary_of op (Int a) (Int b)
+in_int op a b p q = go (is_shift op)
+  where
+    go : (t : Bool) → binary_in kind.Int op a b ≡ (if t then binary_in kind.Int op a b else binary_in kind.Int op (reduced kind.Int a) (reduced kind.Int b))
+    go true = refl
+    go false = λ i. binary_in kind.Int op (reduced_same kind.Int a p i) (reduced_same kind.Int b q i)

@@ -8,6 +8,8 @@
 ghost use Rattle.std.specs.Prelude.{◌≡◌, true, unsigned_abs, ◌+ℤ◌, ◌-ℤ◌, ◌*ℤ◌, ◌^◌, ◌-◌, ◌<◌, ◌≤ℤ◌, ◌<ℤ◌, pos, neg_ℤ};
 ghost use Rattle.species_ast.specs.Operators.{bits_of, is_signed, order_of, kind_of, number_of, in_kind, converted, exact_in, left_by, right_by, binary_of, unary_of};
 ghost use Rattle.species_ast.specs.Operators as operators;
+ghost use Rattle.species_ast.specs.Accesses as accesses;
+ghost use Rattle.species_ast.specs.declared.tree.Kind.TheVariants as kind;
 ghost use Rattle.species_cint.specs.Ranges.{IsNumber, IsRightSide};
 
 pub use species_ast::Undefined;
@@ -37,7 +39,8 @@ fn signed(kind: Kind) -> bool
     }
 }
 
-fn kind_of(v: Value) -> Kind
+/// The kind of a value.
+pub fn kind_of(v: Value) -> Kind
     ensures { result ≡ kind_of v }
 {
     match v {
@@ -81,8 +84,29 @@ fn modulus(kind: Kind) -> Word
     1 << bits(kind)
 }
 
-/// The number of the kind that is equal to `n` modulo 2 to the power of the width.
+/// Whether a kind has this number.
+fn has(kind: Kind, n: Word) -> bool
+    ensures { result ≡ true → IsNumber kind n }
+{
+    match kind {
+        Kind::Int => Word::from(i32::MIN) <= n && n <= Word::from(i32::MAX),
+        Kind::Unsigned => 0 <= n && n <= Word::from(u32::MAX),
+        Kind::Long => Word::from(i64::MIN) <= n && n <= Word::from(i64::MAX),
+        Kind::UnsignedLong => 0 <= n && n <= Word::from(u64::MAX),
+    }
+}
+
+/// The number of the kind that is equal to `n` modulo 2 to the power of the width. Most numbers
+/// have the kind already, and a division of words takes long.
+#[tactic(auto, using(crate::proofs::Words::reduced_same))]
 fn reduced(kind: Kind, n: Word) -> Word
+    ensures number { result ≡ operators.reduced kind n }
+    ensures range { IsNumber kind result }
+{
+    if has(kind, n) { n } else { wrapped(kind, n) }
+}
+
+fn wrapped(kind: Kind, n: Word) -> Word
     ensures number { result ≡ operators.reduced kind n }
     ensures range { IsNumber kind result }
 {
@@ -116,6 +140,15 @@ fn exact(kind: Kind, n: Word) -> Result<Value, Undefined>
     } else {
         Err(Undefined::Overflow)
     }
+}
+
+/// An element's value after an atomic addition: of the element's kind, and equal to the sum modulo 2
+/// to the power of the width.
+pub fn added(v: Value, old: Value) -> Value
+    ensures { result ≡ accesses.added v old }
+{
+    let kind = kind_of(old);
+    value(kind, reduced(kind, number(old) + number(v)))
 }
 
 /// Int 1 or 0.
@@ -260,13 +293,14 @@ fn complement(kind: Kind, n: Word) -> Value
 }
 
 /// The kind to which the two sides of an operator are converted: the later of theirs in the order.
-fn joint(a: Kind, b: Kind) -> Kind
+pub fn joint(a: Kind, b: Kind) -> Kind
     ensures { result ≡ operators.joint a b }
 {
     if order(a) < order(b) { b } else { a }
 }
 
-fn is_shift(op: Binary) -> bool
+/// Whether the operator is `<<` or `>>`.
+pub fn is_shift(op: Binary) -> bool
     ensures { result ≡ operators.is_shift op }
 {
     matches!(op, Binary::Shl | Binary::Shr)
@@ -298,9 +332,54 @@ fn binary_in(kind: Kind, op: Binary, a: Word, b: Word) -> Result<Value, Undefine
     }
 }
 
+/// What an operator gives in `int` whose exact result is `n`.
+fn int_exact(n: i64) -> Result<Value, Undefined>
+    ensures { result ≡ exact_in kind.Int n }
+{
+    if i64::from(i32::MIN) <= n && n <= i64::from(i32::MAX) {
+        Ok(Value::Int(n as i32))
+    } else {
+        Err(Undefined::Overflow)
+    }
+}
+
+/// The table of the binary operators in `int`, where most kernels compute, in narrower words.
+fn int_binary(op: Binary, a: i32, b: i32) -> Result<Value, Undefined>
+    ensures { result ≡ operators.binary_in kind.Int op a b }
+{
+    match op {
+        Binary::Mul => int_exact(i64::from(a) * i64::from(b)),
+        Binary::Add => int_exact(i64::from(a) + i64::from(b)),
+        Binary::Sub => int_exact(i64::from(a) - i64::from(b)),
+        Binary::Lt => Ok(truth(a < b)),
+        Binary::Le => Ok(truth(a <= b)),
+        Binary::Gt => Ok(truth(a > b)),
+        Binary::Ge => Ok(truth(a >= b)),
+        Binary::Eq => Ok(truth(a == b)),
+        Binary::Ne => Ok(truth(a != b)),
+        _ => binary_in(Kind::Int, op, Word::from(a), Word::from(b)),
+    }
+}
+
 /// The value of a binary operator, or why it has none. A shift works in the kind of its left side;
 /// for another operator both sides are converted to the later of their kinds.
 pub fn binary(op: Binary, a: Value, b: Value) -> Result<Value, Undefined>
+    ensures { result ≡ binary_of op a b }
+{
+    match a {
+        Value::Int(x) => match b {
+            Value::Int(y) => int_binary(op, x, y),
+            Value::Unsigned(_) => converted_binary(op, a, b),
+            Value::Long(_) => converted_binary(op, a, b),
+            Value::UnsignedLong(_) => converted_binary(op, a, b),
+        },
+        Value::Unsigned(_) => converted_binary(op, a, b),
+        Value::Long(_) => converted_binary(op, a, b),
+        Value::UnsignedLong(_) => converted_binary(op, a, b),
+    }
+}
+
+fn converted_binary(op: Binary, a: Value, b: Value) -> Result<Value, Undefined>
     ensures { result ≡ binary_of op a b }
 {
     if is_shift(op) {

@@ -91,7 +91,10 @@ fn hands_on_each_piece(rt: HostRuntime) {
             room: 4_194_304,
         };
         let answer = read_each(&mut input, limit, &mut kept);
-        assert!(rt; answer == want || answer == Err(ReadAnswer::Memory), "{piece} {limit}");
+        assert!(rt;
+            answer == want || answer == Err(ReadAnswer::Memory),
+            "{piece} {limit}"
+        );
         assert!(rt; kept.bytes.as_slice() == handed, "{piece} {limit}");
     }
 }

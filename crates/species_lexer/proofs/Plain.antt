@@ -10,7 +10,7 @@ use Rattle.species_ast.specs.Text.Comments.{gap_len, content_len, comment_len, s
 use Rattle.species_ast.specs.Text.Numbers.{run_more, literal_of, or_else}
 use Rattle.species_ast.specs.Text.Words.{is_keyword, punctuator_len}
 use Rattle.species_ast.specs.Text.Parts.{Part, is, is_nothing, parts_of, offset_of, after_words}
-use Rattle.species_ast.specs.Text.Pragmas.{schedule_of, depth_of, parallel_of, atomic_of, openmp_of}
+use Rattle.species_ast.specs.Text.Pragmas.{schedule_of, depth_of, parallel_with, parallel_of, atomic_of, openmp_of}
 use Rattle.species_ast.specs.Text.Directives.{Form, Skipped, Read, Macro, Wrong, formless, header_len, is_gap, include_with, include_of, is_first_in, is_name, define_as, define_of, is_end, species_of, openmp_form, pragma_with, unless_backslash, pragma_of, parts_form, first_word, is_include, form_of}
 use Rattle.species_ast.specs.Text.Pieces.{Piece, Space, Lexeme, line_comment, block_comment, number, punctuator, unless_spliced, directive, Start, Blank, LineComment, BlockComment, Letter, Digit, Hash, Other, start_of, piece_in, piece_of}
 use Rattle.species_ast.specs.Text.Stream.{is_definition}
@@ -26,12 +26,16 @@ plain_else : (a b : Option TokenKind) → PlainOption a → PlainOption b → Pl
 plain_else None b x y = y
 plain_else (Some k) b x y = x
 
+plain_scheduled : (depth : ℕ) (o : Option Schedule) → PlainOption (option_map (kind.Parallel depth) o)
+plain_scheduled depth None = tt
+plain_scheduled depth (Some s) = refl
+
 plain_parallel : (ps : List Part) → PlainOption (parallel_of ps)
-plain_parallel ps = go (schedule_of (depth_of ps).1)
+plain_parallel ps = go (depth_of ps)
   where
-    go : (o : Option Schedule) → PlainOption (option_map (λ s. kind.Parallel (depth_of ps).0 s) o)
+    go : (o : Option (ℕ × List Part)) → PlainOption (option_and_then parallel_with o)
     go None = tt
-    go (Some s) = refl
+    go (Some p) = plain_scheduled p.0 (schedule_of p.1)
 
 plain_atomic : (ps : List Part) → PlainOption (atomic_of ps)
 plain_atomic [] = refl

@@ -15,10 +15,10 @@ pub record CutPart : Type 0 where
   pub is_head : Bool
 
 -- how many bytes a piece has, and 0 for what is cut no further
-abbrev pub extent : Piece → ℕ
-extent (Space n) = n
-extent (Lexeme n text k) = n
-extent _ = 0
+abbrev pub cut_size : Piece → ℕ
+cut_size (Space n) = n
+cut_size (Lexeme n text k) = n
+cut_size _ = 0
 
 -- the refusal that a piece is at this place
 abbrev pub refusal_at : ℕ → Piece → Option LexRefusal

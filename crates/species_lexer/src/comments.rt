@@ -2,7 +2,7 @@ ghost use Rattle.std.specs.Prelude.{◌≡◌, ◌≤◌, ◌<◌, ◌+◌, leng
 ghost use Rattle.species_ast.specs.Text.Characters.{begins};
 ghost use Rattle.species_ast.specs.Text.Comments.{closing_len, comment_len, last_backslash, splice_at, closed_len, blank_len, gap_len, plain_len, content_len};
 
-use crate::characters::{is_blank, line_len};
+use species_ast::{is_blank, line_len};
 
 /// How many bytes there are up to the first `*/`, with it.
 fn closing_len(bytes: &[u8]) -> Option<usize>

@@ -1,5 +1,5 @@
 //! Cutting a text piece by piece, with a table of the names that it defines.
-ghost use Rattle.std.specs.Prelude.{◌≡◌, ◌≤◌, ◌+◌, ◌++◌, ◌∷◌, [], None, List, ℕ, length, drop, OnOk, OnErr, Some};
+ghost use Rattle.std.specs.Prelude.{◌≡◌, ◌≤◌, ◌+◌, ◌++◌, ◌∷◌, [], None, List, ℕ, length, drop, OnOk, OnErr, Some, false, true};
 ghost use Rattle.species_ast.specs.Text.Stream.{in_scope, look_up};
 ghost use Rattle.species_ast.specs.declared.token.TokenKind.TheVariants as kind;
 ghost use Rattle.species_lexer.specs.Pieces.{seen_piece, piece_at, Fits};
@@ -52,8 +52,9 @@ impl Cut {
     fn define(&mut self, name: &[u8], literal: Value) -> Result<(), OutOfMemory>
         requires { look_up self.old.names name.now ≡ None }
         ensures ok { OnOk result (self.new ≡ record self.old {
-            table = record self.old.table { tokens = self.old.table.tokens ++ (record { place = self.old.table.length; text = name.now; kind = kind.Define literal } ∷ []) };
-            names = self.old.names ++ (record { name = name.now; literal = literal } ∷ []) }) }
+          table = record self.old.table { tokens = self.old.table.tokens ++ (record { place = self.old.table.length; text = name.now; kind = kind.Define literal } ∷ []) };
+          names = self.old.names ++ (record { name = name.now; literal = literal } ∷ []);
+        }) }
         ensures err { OnErr result (self.new ≡ self.old) }
     {
         self.names.define(name, literal)?;
@@ -74,8 +75,8 @@ impl Cut {
     /// Cuts the piece at the front of these bytes.
     fn add(&mut self, piece: Piece<'_>, rest: &[u8]) -> Result<usize, CutRefusal>
         requires short { self.old.table.length + length rest.now ≤ 4194304 }
-        requires piece { Some (seen_piece piece.entry) ≡ piece_at self.old.is_head rest.now }
-        requires fits { Fits piece.entry rest.now }
+        requires piece { Some (seen_piece piece) ≡ piece_at self.old.is_head rest.now }
+        requires fits { Fits piece rest.now }
         ensures { Adds result (seen_cut self.old) (seen_cut self.new) rest.now (in_scope self.old.names (seen_piece piece.entry)) }
     {
         let place = self.table.length();

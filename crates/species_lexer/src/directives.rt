@@ -6,15 +6,13 @@ ghost use Rattle.species_lexer.specs.Seen.{seen_part};
 ghost use Rattle.species_lexer.specs.Parts.{parts_left};
 ghost use Rattle.species_lexer.specs.Forms.{seen_form};
 
-use crate::characters::{is_digit, is_letter, word_len};
 use crate::comments::{content_len, gap_len};
 use crate::fault::Fault;
 use crate::form::Form;
 use crate::parts::{Part, Parts};
 use crate::pragmas::openmp_of;
 use crate::slices::{behind, front};
-use crate::words::is_keyword;
-use species_ast::TokenKind;
+use species_ast::{TokenKind, is_digit, is_keyword, is_letter, word_len};
 
 fn place_of(byte: u8, bytes: &[u8]) -> Option<usize>
     ensures { result ≡ position (nat_eq byte) bytes.now }

@@ -1,9 +1,9 @@
 //! Cuts the text of a program into tokens, one at a time and without memory of its own.
 #![tactic(auto)]
 
-mod characters;
 mod comments;
 mod cut;
+mod cutter;
 mod directives;
 mod fault;
 mod form;
@@ -19,8 +19,8 @@ mod slices;
 mod table;
 mod token;
 mod tokens;
-mod words;
 
+pub use cutter::Cutter;
 pub use refusal::CutRefusal;
 pub use species_ast::{LexRefusal, TokenKind};
 pub use table::{TableTokens, TokenTable};

@@ -1,13 +1,17 @@
 ghost use Rattle.std.specs.Prelude.{◌≡◌, ◌≤◌, ◌<◌, ◌^◌, ℕ, length, drop, nat_le, Option, Some, None, if◌then◌else◌};
 ghost use Rattle.std.specs.Char.{digit_value};
 ghost use Rattle.std.specs.Str.Parse.{digits_value};
-ghost use Rattle.std.specs.List.{list_all};
-ghost use Rattle.species_ast.specs.Text.Characters.{is_digit, is_hex_digit};
-ghost use Rattle.species_ast.specs.Text.Numbers.{goes_on, run_more, is_decimal, is_hexadecimal, unsigned_literal, int_literal, hex_literal, decimal_value, hex_value, literal_of};
+ghost use Rattle.species_ast.specs.Text.Characters.{is_digit, is_hex_digit, run_of};
+ghost use Rattle.species_ast.specs.Text.Numbers.{goes_on, run_more, asked_kind, literal_in, unsigned_of, hex_literal, is_decimal, decimal_value, hex_value, literal_of};
 
-use crate::characters::{is_digit, is_word_byte};
-use crate::slices::behind;
-use species_ast::Value;
+use crate::slices::{behind, front};
+use species_ast::{Kind, Value, is_digit, is_one_of, is_word_byte};
+
+const UNSIGNED_SUFFIXES: [&str; 2] = ["u", "U"];
+
+const LONG_SUFFIXES: [&str; 2] = ["ll", "LL"];
+
+const UNSIGNED_LONG_SUFFIXES: [&str; 8] = ["ull", "uLL", "Ull", "ULL", "llu", "llU", "LLu", "LLU"];
 
 /// Whether a number that has come to `last` goes on with `next`: a sign goes on only directly behind
 /// the letter of an exponent.
@@ -35,90 +39,122 @@ pub(crate) fn run_more(last: u8, bytes: &[u8]) -> usize
     bytes.len()
 }
 
-fn digit_value(b: u8) -> u64
+fn digit_value(b: u8) -> u128
     ensures value { result ≡ digit_value b }
     ensures small { result ≤ 36 }
 {
     if b < b'0' {
         36
     } else if b <= b'9' {
-        b as u64 - 48
+        b as u128 - 48
     } else if b < b'A' {
         36
     } else if b <= b'Z' {
-        b as u64 - 55
+        b as u128 - 55
     } else if b < b'a' {
         36
     } else if b <= b'z' {
-        b as u64 - 87
+        b as u128 - 87
     } else {
         36
     }
 }
 
-/// The number that the digits write, unless it is too large for 32 bits.
-fn number(radix: u64, digits: &[u8]) -> Option<u32>
+/// The number that the digits write, unless it is too large for 64 bits.
+fn number(radix: u128, digits: &[u8]) -> Option<u64>
     requires some { 1 ≤ radix }
     requires few { radix ≤ 16 }
-    ensures { result ≡ (if nat_le (digits_value radix digits.now) 4294967295 then Some (digits_value radix digits.now) else None) }
+    ensures { result ≡ (if nat_le (digits_value radix digits.now) 18446744073709551615 then Some (digits_value radix digits.now) else None) }
 {
-    let mut n: u64 = 0;
+    let mut n: u128 = 0;
     for digit in digits {
         n = n * radix + digit_value(*digit);
-        if n > 4294967295 {
+        if n > 18446744073709551615 {
             return None;
         }
     }
-    Some(n as u32)
+    Some(n as u64)
 }
 
-fn unsigned_literal(radix: u64, digits: &[u8]) -> Option<Value>
-    requires some { 1 ≤ radix }
-    requires few { radix ≤ 16 }
-    ensures { result ≡ unsigned_literal (digits_value radix digits.now) }
+/// The kind that a literal asks for by what stands behind its digits.
+fn asked_kind(suffix: &[u8]) -> Option<Kind>
+    ensures { result ≡ asked_kind suffix.now }
 {
-    match number(radix, digits) {
-        Some(n) => Some(Value::Unsigned(n)),
-        None => None,
+    if suffix.is_empty() {
+        Some(Kind::Int)
+    } else if is_one_of(&UNSIGNED_SUFFIXES, suffix) {
+        Some(Kind::Unsigned)
+    } else if is_one_of(&LONG_SUFFIXES, suffix) {
+        Some(Kind::Long)
+    } else if is_one_of(&UNSIGNED_LONG_SUFFIXES, suffix) {
+        Some(Kind::UnsignedLong)
+    } else {
+        None
     }
 }
 
-fn int_literal(digits: &[u8]) -> Option<Value>
-    ensures { result ≡ int_literal (digits_value 10 digits.now) }
+fn unsigned_of(kind: Kind) -> Kind
+    ensures { result ≡ unsigned_of kind }
 {
-    match number(10, digits) {
-        Some(n) if n <= 2147483647 => Some(Value::Int(n as i32)),
+    match kind {
+        Kind::Int | Kind::Unsigned => Kind::Unsigned,
+        Kind::Long | Kind::UnsignedLong => Kind::UnsignedLong,
+    }
+}
+
+/// A literal of this number, if its kind has it.
+fn literal_in(kind: Kind, n: u64) -> Option<Value>
+    ensures { result ≡ literal_in kind n }
+{
+    match kind {
+        Kind::Int if n <= 2147483647 => Some(Value::Int(n as i32)),
+        Kind::Unsigned if n <= 4294967295 => Some(Value::Unsigned(n as u32)),
+        Kind::Long if n <= 9223372036854775807 => Some(Value::Long(n as i64)),
+        Kind::UnsignedLong => Some(Value::UnsignedLong(n)),
         _ => None,
     }
 }
 
-/// A hexadecimal number without a suffix: `int` where it fits.
-fn hex_literal(digits: &[u8]) -> Option<Value>
-    ensures { result ≡ hex_literal (digits_value 16 digits.now) }
+#[tactic(auto, using(crate::proofs::Digits::none_above))]
+fn decimal_literal(kind: Kind, digits: &[u8]) -> Option<Value>
+    ensures { result ≡ literal_in kind (digits_value 10 digits.now) }
 {
-    match number(16, digits) {
-        Some(n) if n <= 2147483647 => Some(Value::Int(n as i32)),
-        Some(n) => Some(Value::Unsigned(n)),
+    match number(10, digits) {
+        Some(n) => literal_in(kind, n),
         None => None,
     }
 }
 
-fn are_digits(digits: &[u8]) -> bool
-    ensures { result ≡ list_all is_digit digits.now }
+/// A hexadecimal literal: unsigned where it is too large for the kind that it asks for.
+#[tactic(auto, using(crate::proofs::Digits::none_above))]
+fn hex_literal(kind: Kind, digits: &[u8]) -> Option<Value>
+    ensures { result ≡ hex_literal kind (digits_value 16 digits.now) }
 {
-    digits.iter().all(|b| is_digit(*b))
+    match number(16, digits) {
+        Some(n) => match literal_in(kind, n) {
+            Some(value) => Some(value),
+            None => literal_in(unsigned_of(kind), n),
+        },
+        None => None,
+    }
 }
 
-fn are_hex_digits(digits: &[u8]) -> bool
-    ensures { result ≡ list_all is_hex_digit digits.now }
+fn digits_len(bytes: &[u8]) -> usize
+    ensures { result ≡ run_of is_digit bytes.now }
 {
-    digits.iter().all(|b| b.is_ascii_hexdigit())
+    bytes.iter().take_while(|b| is_digit(**b)).count()
+}
+
+fn hex_digits_len(bytes: &[u8]) -> usize
+    ensures { result ≡ run_of is_hex_digit bytes.now }
+{
+    bytes.iter().take_while(|b| b.is_ascii_hexdigit()).count()
 }
 
 fn is_decimal(digits: &[u8]) -> bool
     ensures { result ≡ is_decimal digits.now }
 {
-    if digits.is_empty() || !are_digits(digits) {
+    if digits.is_empty() {
         false
     } else if digits.len() == 1 {
         true
@@ -127,37 +163,27 @@ fn is_decimal(digits: &[u8]) -> bool
     }
 }
 
-fn is_hexadecimal(digits: &[u8]) -> bool
-    ensures { result ≡ is_hexadecimal digits.now }
-{
-    if digits.is_empty() {
-        false
-    } else {
-        are_hex_digits(digits)
-    }
-}
-
-fn decimal_value(is_unsigned: bool, digits: &[u8]) -> Option<Value>
-    ensures { result ≡ decimal_value is_unsigned digits.now }
+fn decimal_value(digits: &[u8], suffix: &[u8]) -> Option<Value>
+    ensures { result ≡ decimal_value digits.now suffix.now }
 {
     if !is_decimal(digits) {
-        None
-    } else if is_unsigned {
-        unsigned_literal(10, digits)
-    } else {
-        int_literal(digits)
+        return None;
+    }
+    match asked_kind(suffix) {
+        Some(kind) => decimal_literal(kind, digits),
+        None => None,
     }
 }
 
-fn hex_value(is_unsigned: bool, digits: &[u8]) -> Option<Value>
-    ensures { result ≡ hex_value is_unsigned digits.now }
+fn hex_value(digits: &[u8], suffix: &[u8]) -> Option<Value>
+    ensures { result ≡ hex_value digits.now suffix.now }
 {
-    if !is_hexadecimal(digits) {
-        None
-    } else if is_unsigned {
-        unsigned_literal(16, digits)
-    } else {
-        hex_literal(digits)
+    if digits.is_empty() {
+        return None;
+    }
+    match asked_kind(suffix) {
+        Some(kind) => hex_literal(kind, digits),
+        None => None,
     }
 }
 
@@ -166,15 +192,12 @@ fn hex_value(is_unsigned: bool, digits: &[u8]) -> Option<Value>
 pub(crate) fn literal(run: &[u8]) -> Option<Value>
     ensures { result ≡ literal_of run.now }
 {
-    let is_unsigned = run.ends_with(b"u") || run.ends_with(b"U");
-    let digits = if is_unsigned {
-        &run[..run.len() - 1]
-    } else {
-        run
-    };
     if run.starts_with(b"0x") || run.starts_with(b"0X") {
-        hex_value(is_unsigned, behind(digits, 2))
+        let digits = behind(run, 2);
+        let n = hex_digits_len(digits);
+        hex_value(front(digits, n), behind(digits, n))
     } else {
-        decimal_value(is_unsigned, digits)
+        let n = digits_len(run);
+        decimal_value(front(run, n), behind(run, n))
     }
 }

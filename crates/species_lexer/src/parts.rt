@@ -1,10 +1,10 @@
 ghost use Rattle.std.specs.Prelude.{◌≡◌, ◌∷◌, [], ◌<◌, ◌≤◌, ◌^◌, ◌+◌, suc, length, option_map};
 ghost use Rattle.species_ast.specs.Text.Parts.{part_len, parts_of, after_words, is, is_nothing};
 
-use crate::characters::{is_digit, is_letter, word_len};
 use crate::comments::gap_len;
 use crate::numbers::run_more;
 use crate::slices::{behind, front};
+use species_ast::{is_digit, is_letter, word_len};
 
 /// A word, a number or another byte of a directive, with its offset from the `#`.
 #[derive(Clone, Copy)]

@@ -9,7 +9,6 @@ ghost use Rattle.species_ast.specs.Text.Pieces as text;
 ghost use Rattle.species_lexer.specs.Seen.{seen_part};
 ghost use Rattle.species_lexer.specs.Pieces.{seen_piece, seen_value, piece_at, Fits};
 
-use crate::characters::{is_blank, is_digit, is_letter, line_len, word_len};
 use crate::comments::{comment_len, splice_at};
 use crate::directives::form_of;
 use crate::fault::Fault;
@@ -18,8 +17,9 @@ use crate::numbers::{literal, run_more};
 use crate::parts::Part;
 use crate::piece::Piece;
 use crate::slices::{behind, front};
-use crate::words::{is_keyword, punctuator_len};
-use species_ast::{TokenKind, Value};
+use species_ast::{
+    TokenKind, Value, is_blank, is_digit, is_keyword, is_letter, line_len, punctuator_len, word_len,
+};
 
 /// A `//` comment of `n` bytes.
 fn line_comment<'a>(n: usize, bytes: &'a [u8]) -> Piece<'a>

@@ -128,25 +128,24 @@ fn depth_in<'a>(parts: Parts<'a>) -> Option<(u32, Parts<'a>)>
     }
 }
 
-fn depth_of<'a>(parts: Parts<'a>) -> (u32, Parts<'a>)
-    ensures { depth_left result ≡ depth_of (parts_left parts.entry) }
+fn depth_of<'a>(parts: Parts<'a>) -> Option<(u32, Parts<'a>)>
+    ensures { option_map depth_left result ≡ depth_of (parts_left parts.entry) }
 {
     match parts.after_two(b"collapse", b"(") {
-        None => (1, parts),
-        Some(others) => match depth_in(others) {
-            None => (1, parts),
-            Some(found) => found,
-        },
+        None => Some((1, parts)),
+        Some(others) => depth_in(others),
     }
 }
 
 fn parallel_of(parts: Parts) -> Option<TokenKind>
     ensures { result ≡ parallel_of (parts_left parts.entry) }
 {
-    let (depth, others) = depth_of(parts);
-    match schedule_of(others) {
+    match depth_of(parts) {
         None => None,
-        Some(schedule) => Some(TokenKind::Parallel(depth, schedule)),
+        Some((depth, others)) => match schedule_of(others) {
+            None => None,
+            Some(schedule) => Some(TokenKind::Parallel(depth, schedule)),
+        },
     }
 }
 

@@ -1,4 +1,5 @@
-use crate::Tokens;
+use crate::{CutRefusal, Cutter, TokenTable, Tokens};
+use species_io::{MemSource, read_each};
 use std::alloc::Global;
 use std::process::Abort;
 use std::test::Fail;
@@ -26,6 +27,49 @@ static NUMBERS: [(&str, &str); 14] = [
     ("0x80000000", "0 Number(Unsigned(2147483648)) 0x80000000"),
     ("0XFFFFFFFF", "0 Number(Unsigned(4294967295)) 0XFFFFFFFF"),
     ("0x100000000", "BadNumber(0)"),
+];
+
+static LONG_NUMBERS: [(&str, &str); 16] = [
+    (
+        "2147483647ll+2147483648ll",
+        "0 Number(Long(2147483647)) 2147483647ll | 12 Punct + | 13 Number(Long(2147483648)) 2147483648ll",
+    ),
+    (
+        "9223372036854775807LL",
+        "0 Number(Long(9223372036854775807)) 9223372036854775807LL",
+    ),
+    ("9223372036854775808ll", "BadNumber(0)"),
+    (
+        "9223372036854775808ull",
+        "0 Number(UnsignedLong(9223372036854775808)) 9223372036854775808ull",
+    ),
+    (
+        "18446744073709551615LLU",
+        "0 Number(UnsignedLong(18446744073709551615)) 18446744073709551615LLU",
+    ),
+    ("18446744073709551616ULL", "BadNumber(0)"),
+    ("0x80000000ll", "0 Number(Long(2147483648)) 0x80000000ll"),
+    ("0x100000000LL", "0 Number(Long(4294967296)) 0x100000000LL"),
+    (
+        "0x7fffffffffffffffll",
+        "0 Number(Long(9223372036854775807)) 0x7fffffffffffffffll",
+    ),
+    (
+        "0x8000000000000000ll",
+        "0 Number(UnsignedLong(9223372036854775808)) 0x8000000000000000ll",
+    ),
+    (
+        "0XFFFFFFFFFFFFFFFFuLL",
+        "0 Number(UnsignedLong(18446744073709551615)) 0XFFFFFFFFFFFFFFFFuLL",
+    ),
+    ("0x10000000000000000ull", "BadNumber(0)"),
+    ("1lL", "BadNumber(0)"),
+    ("1lul", "BadNumber(0)"),
+    ("5ll-1l", "0 Number(Long(5)) 5ll | 3 Punct - | BadNumber(4)"),
+    (
+        "#define N 5llU\nN",
+        "0 Define(UnsignedLong(5)) N | 15 Number(UnsignedLong(5)) N",
+    ),
 ];
 
 static WORDS: [(&str, &str); 12] = [
@@ -212,6 +256,11 @@ fn numbers_have_the_tokens_of_the_table(rt: HostRuntime) -> Result<(), Fail> {
 }
 
 #[test]
+fn numbers_of_64_bits_have_the_tokens_of_the_table(rt: HostRuntime) -> Result<(), Fail> {
+    compare(&rt, rt.alloc(), &LONG_NUMBERS)
+}
+
+#[test]
 fn words_and_punctuators_have_the_tokens_of_the_table(rt: HostRuntime) -> Result<(), Fail> {
     compare(&rt, rt.alloc(), &WORDS)
 }
@@ -234,6 +283,94 @@ fn directives_have_the_tokens_of_the_table(rt: HostRuntime) -> Result<(), Fail> 
 #[test]
 fn pragmas_have_the_tokens_of_the_table(rt: HostRuntime) -> Result<(), Fail> {
     compare(&rt, rt.alloc(), &PRAGMAS)
+}
+
+fn shown_table(alloc: Global, table: &TokenTable) -> Result<String, Fail> {
+    let mut out = String::new(alloc);
+    let mut tokens = table.cursor();
+    let mut separator = "";
+    for _ in 0..1000 {
+        match tokens.next() {
+            None => return Ok(out),
+            Some(token) => {
+                let place = token.place;
+                let kind = token.kind;
+                let bytes = str::from_utf8(token.text)?;
+                out.push_str(separator)?;
+                out.push_str(format!(in alloc; "{place} {kind:?} {bytes}")?.as_str())?;
+                separator = " | ";
+            }
+        }
+    }
+    Ok(out)
+}
+
+/// A table shows these tokens, or its refusal the last of these things.
+fn agrees(alloc: Global, found: &Result<TokenTable, CutRefusal>, want: &str) -> Result<bool, Fail> {
+    match found {
+        Ok(table) => Ok(shown_table(alloc, table)?.as_str() == want),
+        Err(CutRefusal::Lex(refusal)) => {
+            let last = format!(in alloc; "{refusal:?}")?;
+            Ok(want == last.as_str() || want.ends_with(format!(in alloc; " | {last}")?.as_str()))
+        }
+        Err(CutRefusal::Memory) => Ok(false),
+    }
+}
+
+fn in_two(alloc: Global, first: &[u8], second: &[u8]) -> Result<TokenTable, CutRefusal> {
+    if first.len() > 1000 || second.len() > 1000 {
+        return Err(CutRefusal::Memory);
+    }
+    let mut cutter = Cutter::new(alloc);
+    cutter.feed(first)?;
+    cutter.feed(second)?;
+    cutter.finish()
+}
+
+fn in_pieces(alloc: Global, text: Vec<u8>, piece: usize) -> Result<TokenTable, CutRefusal> {
+    let mut cutter = Cutter::new(alloc);
+    let mut input = MemSource::new(text, piece.max(1), Vec::new(alloc));
+    match read_each(&mut input, 4194304, &mut cutter) {
+        Ok(()) => cutter.finish(),
+        Err(_) => Err(CutRefusal::Memory),
+    }
+}
+
+/// Each text in two pieces that meet at each place, and in pieces of some sizes.
+fn compare_pieces(rt: &impl Abort, alloc: Global, cases: &[(&str, &str)]) -> Result<(), Fail> {
+    for (text, want) in cases {
+        let bytes = text.as_bytes();
+        for at in 0..bytes.len() {
+            let found = in_two(alloc, &bytes[..at], &bytes[at..]);
+            assert!(rt; agrees(alloc, &found, want)?, "at {text} in two at {at}");
+        }
+        for piece in [1, 2, 3, 7, 4096] {
+            let found = in_pieces(alloc, Vec::from_slice(alloc, bytes)?, piece);
+            assert!(rt;
+                agrees(alloc, &found, want)?,
+                "at {text} in pieces of {piece}"
+            );
+        }
+    }
+    Ok(())
+}
+
+#[test]
+fn numbers_and_words_are_the_same_in_pieces(rt: HostRuntime) -> Result<(), Fail> {
+    compare_pieces(&rt, rt.alloc(), &NUMBERS)?;
+    compare_pieces(&rt, rt.alloc(), &WORDS)
+}
+
+#[test]
+fn comments_and_definitions_are_the_same_in_pieces(rt: HostRuntime) -> Result<(), Fail> {
+    compare_pieces(&rt, rt.alloc(), &COMMENTS)?;
+    compare_pieces(&rt, rt.alloc(), &DEFINITIONS)
+}
+
+#[test]
+fn directives_and_pragmas_are_the_same_in_pieces(rt: HostRuntime) -> Result<(), Fail> {
+    compare_pieces(&rt, rt.alloc(), &DIRECTIVES)?;
+    compare_pieces(&rt, rt.alloc(), &PRAGMAS)
 }
 
 #[test]

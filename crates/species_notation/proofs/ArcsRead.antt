@@ -16,7 +16,7 @@ use Rattle.species_notation.specs.declared.raw.RawArc.{RawArc}
 use Rattle.species_notation.specs.declared.raw.RawLine.{RawLine}
 use Rattle.species_notation.specs.declared.raw.RawLine.TheVariants as line
 use Rattle.species_notation.specs.Spelled.{RawOffset, minus, behind, listed_parts, form_parts, range_parts, int_parts, stride_parts, offset_parts, offsets_parts, word_text, mark_text, arc_front, arc_forms, arc_parts, side_parts, line_parts}
-use Rattle.species_notation.specs.Readers.{here, sign, arrow, the_word, name, number, arc_words, marks, stands_alone, choose_alone, leading, more_of, listed, form, range_of, range, int_of, int, span_of, span_from, behind_minus, offset, offsets, forms, ranges, arc_of, arc, arcs, side, sequential, sides_of, line_reader, answered, raw_line}
+use Rattle.species_notation.specs.Readers.{sign, arrow, the_word, name, number, arc_words, marks, stands_alone, choose_alone, leading, more_of, listed, form, range_of, range, int_of, int, span_of, span_from, behind_minus, offset, offsets, forms, ranges, arc_of, arc, arcs, side, sequential, sides_of, line_reader, answered, raw_line}
 use Rattle.species_notation.proofs.Combining.{both_at, mapped_at, skip_at, ends_at, maybe_not, maybe_then, listed_at}
 use Rattle.species_notation.proofs.Fine.{Each}
 use Rattle.species_notation.proofs.FormsRead.{FormEnd, leading_at, form_at}
@@ -46,7 +46,7 @@ high_and_stride = both int (maybe (sign 58) (word number))
 span_more_at : (b : RawInt) (t : Option ℕ) (us : List Part) → NoColon us → skip (sign 58) high_and_stride (part.Sign 58 ∷ ((int_parts b ++ stride_parts t) ++ us)) ≡ Answer.read (b, t) us
 span_more_at b t us e =
     ap (λ l. skip (sign 58) high_and_stride (part.Sign 58 ∷ l)) (append_assoc (int_parts b) (stride_parts t) us)
-    ∙ skip_at (sign 58) high_and_stride (part.Sign 58 ∷ (int_parts b ++ (stride_parts t ++ us))) here (int_parts b ++ (stride_parts t ++ us)) (b, t) us refl
+    ∙ skip_at (sign 58) high_and_stride (part.Sign 58 ∷ (int_parts b ++ (stride_parts t ++ us))) tt (int_parts b ++ (stride_parts t ++ us)) (b, t) us refl
         (both_at int (maybe (sign 58) (word number)) (int_parts b ++ (stride_parts t ++ us)) b (stride_parts t ++ us) t us (int_at b (stride_parts t ++ us)) (stride_at t us e))
 
 span_from_at : (negative : Bool) (n : ℕ) (b : RawInt) (t : Option ℕ) (us : List Part) → NoColon us
@@ -62,12 +62,12 @@ span_at : (negative : Bool) (n : ℕ) (b : RawInt) (t : Option ℕ) (us : List P
 unfolding offset
 span_at true n b t us e =
     let more : List Part = part.Number n ∷ part.Sign 58 ∷ ((int_parts b ++ stride_parts t) ++ us) in
-    skip_at (sign 45) behind_minus (part.Sign 45 ∷ more) here more (span_of true (n, (b, t))) us refl (span_from_at true n b t us e.0)
+    skip_at (sign 45) behind_minus (part.Sign 45 ∷ more) tt more (span_of true (n, (b, t))) us refl (span_from_at true n b t us e.0)
 span_at false n b t us e = span_from_at false n b t us e.0
 
 offset_at : (o : RawOffset) (us : List Part) → OffsetEnd us → offset (offset_parts o ++ us) ≡ Answer.read o us
 unfolding offset
-offset_at None us e = skip_at (sign 45) behind_minus (part.Sign 45 ∷ us) here us None us refl (choose_else (is_of number) (span_from true) (nothing None) us e.1)
+offset_at None us e = skip_at (sign 45) behind_minus (part.Sign 45 ∷ us) tt us None us refl (choose_else (is_of number) (span_from true) (nothing None) us e.1)
 offset_at (Some s) us e = span_at s.low.negative s.low.size s.high s.stride us e
 
 -- ---- ranges
@@ -80,7 +80,7 @@ range_at r us e =
     ∙ mapped_at range_of (both form (skip (sign 58) form)) (form_parts r.low ++ part.Sign 58 ∷ more) (r.low, r.high) us
         (both_at form (skip (sign 58) form) (form_parts r.low ++ part.Sign 58 ∷ more) r.low (part.Sign 58 ∷ more) r.high us
           (form_at r.low (part.Sign 58 ∷ more) (refl, refl))
-          (skip_at (sign 58) form (part.Sign 58 ∷ more) here more r.high us refl (form_at r.high us e)))
+          (skip_at (sign 58) form (part.Sign 58 ∷ more) tt more r.high us refl (form_at r.high us e)))
 
 -- ---- lists in brackets, of one or more
 
@@ -91,32 +91,32 @@ IsFilled (x ∷ xs) = Unit {0}
 form_list : (l : List RawForm) (us : List Part) → IsFilled l → ends (listed 44 form) (sign 41) (listed_parts 44 form_parts l ++ part.Sign 41 ∷ us) ≡ Answer.read l us
 form_list [] us f = absurd f
 form_list (x ∷ xs) us f =
-    ends_at (listed 44 form) (sign 41) (listed_parts 44 form_parts (x ∷ xs) ++ part.Sign 41 ∷ us) (x ∷ xs) (part.Sign 41 ∷ us) here us
+    ends_at (listed 44 form) (sign 41) (listed_parts 44 form_parts (x ∷ xs) ++ part.Sign 41 ∷ us) (x ∷ xs) (part.Sign 41 ∷ us) tt us
       (listed_at 44 form form_parts FormEnd (λ x ts. (refl, refl)) form_at (part.Sign 41 ∷ us) refl (refl, refl) x xs) refl
 
 offset_list : (l : List RawOffset) (us : List Part) → IsFilled l → ends (listed 44 offset) (sign 41) (listed_parts 44 offset_parts l ++ part.Sign 41 ∷ us) ≡ Answer.read l us
 offset_list [] us f = absurd f
 offset_list (x ∷ xs) us f =
-    ends_at (listed 44 offset) (sign 41) (listed_parts 44 offset_parts (x ∷ xs) ++ part.Sign 41 ∷ us) (x ∷ xs) (part.Sign 41 ∷ us) here us
+    ends_at (listed 44 offset) (sign 41) (listed_parts 44 offset_parts (x ∷ xs) ++ part.Sign 41 ∷ us) (x ∷ xs) (part.Sign 41 ∷ us) tt us
       (listed_at 44 offset offset_parts OffsetEnd (λ x ts. (refl, refl)) offset_at (part.Sign 41 ∷ us) refl (refl, refl) x xs) refl
 
 range_list : (l : List RawRange) (us : List Part) → IsFilled l → ends (listed 44 range) (sign 93) (listed_parts 44 range_parts l ++ part.Sign 93 ∷ us) ≡ Answer.read l us
 range_list [] us f = absurd f
 range_list (x ∷ xs) us f =
-    ends_at (listed 44 range) (sign 93) (listed_parts 44 range_parts (x ∷ xs) ++ part.Sign 93 ∷ us) (x ∷ xs) (part.Sign 93 ∷ us) here us
+    ends_at (listed 44 range) (sign 93) (listed_parts 44 range_parts (x ∷ xs) ++ part.Sign 93 ∷ us) (x ∷ xs) (part.Sign 93 ∷ us) tt us
       (listed_at 44 range range_parts FormEnd (λ x ts. (refl, refl)) range_at (part.Sign 93 ∷ us) refl (refl, refl) x xs) refl
 
 ranges_at : (l : List RawRange) (us : List Part) → IsFilled l → ranges (part.Sign 91 ∷ (listed_parts 44 range_parts l ++ part.Sign 93 ∷ us)) ≡ Answer.read l us
 unfolding ranges
 ranges_at l us f =
     let more : List Part = listed_parts 44 range_parts l ++ part.Sign 93 ∷ us in
-    skip_at (sign 91) (ends (listed 44 range) (sign 93)) (part.Sign 91 ∷ more) here more l us refl (range_list l us f)
+    skip_at (sign 91) (ends (listed 44 range) (sign 93)) (part.Sign 91 ∷ more) tt more l us refl (range_list l us f)
 
 forms_at : (l : List RawForm) (us : List Part) → IsFilled l → forms (part.Sign 40 ∷ (listed_parts 44 form_parts l ++ part.Sign 41 ∷ us)) ≡ Answer.read l us
 unfolding forms
 forms_at l us f =
     let more : List Part = listed_parts 44 form_parts l ++ part.Sign 41 ∷ us in
-    skip_at (sign 40) (ends (listed 44 form) (sign 41)) (part.Sign 40 ∷ more) here more l us refl (form_list l us f)
+    skip_at (sign 40) (ends (listed 44 form) (sign 41)) (part.Sign 40 ∷ more) tt more l us refl (form_list l us f)
 
 abbrev pub AreOffsetsFilled : Option (List RawOffset) → Type 0
 AreOffsetsFilled None = Unit {0}
@@ -129,7 +129,7 @@ offsets_at (Some l) us f e =
     let more : List Part = listed_parts 44 offset_parts l ++ part.Sign 41 ∷ us in
     ap (λ z. maybe (sign 40) (ends (listed 44 offset) (sign 41)) (part.Sign 40 ∷ z)) (append_assoc (listed_parts 44 offset_parts l) (part.Sign 41 ∷ []) us)
     ∙ maybe_then (sign 40) (ends (listed 44 offset) (sign 41)) (part.Sign 40 ∷ more) l us refl
-        (skip_at (sign 40) (ends (listed 44 offset) (sign 41)) (part.Sign 40 ∷ more) here more l us refl (offset_list l us f))
+        (skip_at (sign 40) (ends (listed 44 offset) (sign 41)) (part.Sign 40 ∷ more) tt more l us refl (offset_list l us f))
 
 -- Each of the arc's lists has something in it.
 pub record IsArcFilled (a : RawArc) : Type 0 where
@@ -187,7 +187,7 @@ module _ (a : RawArc) (us : List Part) where
   from_at = skip (the_word (codes "at")) (both forms (word marks))
 
   reads_at : Filled → from_at behind_offsets ≡ Answer.read (a.forms, a.exact) us
-  reads_at f = skip_at (the_word (codes "at")) (both forms (word marks)) behind_offsets here at_forms (a.forms, a.exact) us refl (reads_forms f)
+  reads_at f = skip_at (the_word (codes "at")) (both forms (word marks)) behind_offsets tt at_forms (a.forms, a.exact) us refl (reads_forms f)
 
   abbrev from_word : Reader Part (ArcWord × (Option (List RawOffset) × (List RawForm × Bool)))
   from_word = both (word arc_words) (both offsets from_at)
@@ -203,7 +203,7 @@ module _ (a : RawArc) (us : List Part) where
   reads_ranges : Filled → from_ranges behind_name ≡ Answer.read (a.ranges, (a.word, (a.offsets, (a.forms, a.exact)))) us
   reads_ranges f =
       both_at ranges (skip (sign 124) from_word) behind_name a.ranges behind_ranges (a.word, (a.offsets, (a.forms, a.exact))) us (ranges_at a.ranges behind_ranges f.ranges)
-        (skip_at (sign 124) from_word behind_ranges here (part.Name (word_text a.word) ∷ behind_word) (a.word, (a.offsets, (a.forms, a.exact))) us refl (reads_word f))
+        (skip_at (sign 124) from_word behind_ranges tt (part.Name (word_text a.word) ∷ behind_word) (a.word, (a.offsets, (a.forms, a.exact))) us refl (reads_word f))
 
   pub reads_arc : Filled → arc (part.Name a.name ∷ behind_name) ≡ Answer.read a us
   unfolding arc
@@ -255,7 +255,7 @@ more_arcs_at (suc m) (a ∷ more) us f e lt =
     ap (many (suc m) (is_of (sign 94)) (skip (sign 94) arc)) (append_assoc (behind 94 arc_parts a) (flat_map (behind 94 arc_parts) more) us)
     ∙ mapped_at cons_of (both (skip (sign 94) arc) (many m (is_of (sign 94)) (skip (sign 94) arc))) (part.Sign 94 ∷ (arc_parts a ++ rest)) (a, more) us
         (both_at (skip (sign 94) arc) (many m (is_of (sign 94)) (skip (sign 94) arc)) (part.Sign 94 ∷ (arc_parts a ++ rest)) a rest more us
-          (skip_at (sign 94) arc (part.Sign 94 ∷ (arc_parts a ++ rest)) here (arc_parts a ++ rest) a rest refl (arc_reads a rest f.0))
+          (skip_at (sign 94) arc (part.Sign 94 ∷ (arc_parts a ++ rest)) tt (arc_parts a ++ rest) a rest refl (arc_reads a rest f.0))
           (more_arcs_at m more us f.1 e (omega (arith, lt))))
 
 count : (more : List RawArc) (us : List Part) → length more ≤ length (flat_map (behind 94 arc_parts) more ++ us)
@@ -309,7 +309,7 @@ line_at (line.Sides l r) us f e k =
     ∙ alone_else (codes "sequential") one_sequential both_sides (side_parts l ++ part.Arrow ∷ more) (no_sequential l (part.Arrow ∷ more))
     ∙ mapped_at sides_of (both side (skip arrow side)) (side_parts l ++ part.Arrow ∷ more) (l, r) us
         (both_at side (skip arrow side) (side_parts l ++ part.Arrow ∷ more) l (part.Arrow ∷ more) r us (side_at l (part.Arrow ∷ more) f.0 refl refl)
-          (skip_at arrow side (part.Arrow ∷ more) here more r us refl (side_at r us f.1 e k)))
+          (skip_at arrow side (part.Arrow ∷ more) tt more r us refl (side_at r us f.1 e k)))
 
 pub raw_line_at : (l : RawLine) → IsLineFilled l → raw_line (line_parts l) ≡ Some l
 raw_line_at l f = ap (λ a. answered (a >>= ended)) (ap line_reader (sym (append-nil (line_parts l))) ∙ line_at l [] f refl refl)

@@ -8,7 +8,7 @@ use Rattle.species_grammar.proofs.Free.{choose_then, choose_else}
 use Rattle.species_notation.specs.declared.parts.Part.{Part}
 use Rattle.species_notation.specs.declared.parts.Part.TheVariants as part
 use Rattle.species_notation.specs.Spelled.{behind, listed_parts}
-use Rattle.species_notation.specs.Readers.{here, sign, more_of, listed}
+use Rattle.species_notation.specs.Readers.{sign, more_of, listed}
 
 pub nat_eq-same : (n : ℕ) → nat_eq n n ≡ true
 nat_eq-same n = grind arith
@@ -37,11 +37,11 @@ maybe_not w r ts e = choose_else (is_of w) (mapped Some (skip w r)) (nothing Non
 pub maybe_then : {Tok A B : Type 0} (w : Word Tok A) (r : Reader Tok B) (ts : List Tok) (y : B) (us : List Tok) → starts (is_of w) ts ≡ true → skip w r ts ≡ Answer.read y us → maybe w r ts ≡ Answer.read (Some y) us
 maybe_then w r ts y us e f = choose_then (is_of w) (mapped Some (skip w r)) (nothing None) ts e ∙ mapped_at Some (skip w r) ts y us f
 
-pub sign_at : (n : ℕ) (us : List Part) → word (sign n) (part.Sign n ∷ us) ≡ Answer.read here us
-sign_at n us = ap (λ b. said (if b then Some here else None) us (part.Sign n ∷ us)) (nat_eq-same n)
+pub sign_at : (n : ℕ) (us : List Part) → word (sign n) (part.Sign n ∷ us) ≡ Answer.read tt us
+sign_at n us = ap (λ b. said (if b then Some tt else None) us (part.Sign n ∷ us)) (nat_eq-same n)
 
 pub sign_starts : (n : ℕ) (us : List Part) → starts (is_of (sign n)) (part.Sign n ∷ us) ≡ true
-sign_starts n us = ap (λ b. is_some (if b then Some here else None)) (nat_eq-same n)
+sign_starts n us = ap (λ b. is_some (if b then Some tt else None)) (nat_eq-same n)
 
 -- ---- many
 
@@ -86,7 +86,7 @@ module _ {A : Type 0} (n : ℕ) (r : Reader Part A) (parts : A → List Part) (E
     (reads : (x : A) (us : List Part) → End us → r (parts x ++ us) ≡ Answer.read x us)
     (rest : List Part) (stop : starts (is_of (sign n)) rest ≡ false) (end : End rest) where
   after_reads : (x : A) (us : List Part) → End us → skip (sign n) r (behind n parts x ++ us) ≡ Answer.read x us
-  after_reads x us e = skip_at (sign n) r (part.Sign n ∷ (parts x ++ us)) here (parts x ++ us) x us (sign_at n (parts x ++ us)) (reads x us e)
+  after_reads x us e = skip_at (sign n) r (part.Sign n ∷ (parts x ++ us)) tt (parts x ++ us) x us (sign_at n (parts x ++ us)) (reads x us e)
 
   first_end : (xs : List A) → End (flat_map (behind n parts) xs ++ rest)
   first_end [] = end

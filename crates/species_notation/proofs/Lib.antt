@@ -11,3 +11,5 @@ pub mod Pieces
 pub mod LinesBack
 pub mod ReasonsBack
 pub mod ReadBack
+pub mod Texts
+pub mod ArcTexts

@@ -27,7 +27,7 @@ use Rattle.species_notation.specs.declared.given.Names.{Names}
 use Rattle.species_notation.specs.Parts.{most, parts_of, text_of}
 use Rattle.species_notation.specs.Readers.{raw_line}
 use Rattle.species_notation.specs.Meaning.{fits, is_stride, dir_of, given_line, line_of}
-use Rattle.species_notation.specs.Written.{name_at, is_read, reads_of, others_of, line_for, line_pieces, written_reason, line_text}
+use Rattle.species_notation.specs.Written.{name_at, is_read, is_on, reads_of, others_of, line_for, line_pieces, written_reason, line_text}
 use Rattle.species_notation.specs.Law.{AreNames, AreDifferent, IsReadable, IsReadableDim, IsReadableArc, IsReadableReason, arc_as_given, ReadsBack}
 use Rattle.species_notation.proofs.Fine.{Each, Apart, Readable, FormFine, DimFine, WordFits, ArcFine}
 use Rattle.species_notation.proofs.FormSums.{and_both}
@@ -156,8 +156,8 @@ parallel_back names nest arrays iters different_arrays different_iters arcs none
     let each = each_of (IsReadableArc names) nest.arcs arcs in
     ap (λ r. option_and_then (given_line names) (option_and_then raw_line (parts_of (text_of (line_pieces (line_for names nest.arcs r)))))) none
     ∙ sides_back names (each_of (λ w. is_name w ≡ true) names.arrays arrays) (each_of (λ w. is_name w ≡ true) names.iters iters) (apart_of names.arrays different_arrays) (apart_of names.iters different_iters) nest.arcs
-        (filtered names false (λ a. is_read a.dir) (λ a e. dir_left a.dir e) nest.arcs each)
-        (filtered names true (λ a. not (is_read a.dir))
+        (filtered names false (is_on true) (λ a e. dir_left a.dir e) nest.arcs each)
+        (filtered names true (is_on false)
           (λ a e. dir_right a.dir (list_all is_single a.dims) (list_any (λ d. d.driven) a.dims) (list_any is_overlapping a.dims) e) nest.arcs each)
 
 reason_back : (names : Names) (r : Reason) → IsReadableReason names r →

@@ -4,3 +4,4 @@ pub mod Readers
 pub mod Meaning
 pub mod Written
 pub mod Law
+pub mod Gives

@@ -93,6 +93,10 @@ part_text (part.Number n) = decimal n
 part_text (part.Sign b) = b ∷ []
 part_text part.Arrow = codes "->"
 
+-- the text of parts with nothing between them
+abbrev pub parts_text : List Part → List ℕ
+parts_text ps = flat_map part_text ps
+
 -- a part, or one space
 pub data Piece : Type 0 where
   Solid : Part → Piece

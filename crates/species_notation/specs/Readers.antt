@@ -17,36 +17,36 @@ use Rattle.species_notation.specs.Spelled.{RawOffset, plus_minus, word_text, mar
 
 -- ---- the words of the grammar
 
--- what a part with nothing to tell says
-pub data Here : Type 0 where
-  here : Here
+-- the value, where a test holds
+abbrev pub when : {A : Type 0} → Bool → A → Option A
+when b x = if b then Some x else None
 
-abbrev pub says_sign : ℕ → Part → Option Here
-says_sign b (part.Name w) = None
-says_sign b (part.Number n) = None
-says_sign b (part.Sign c) = if nat_eq c b then Some here else None
-says_sign b part.Arrow = None
+abbrev pub is_the_sign : ℕ → Part → Bool
+is_the_sign b (part.Name w) = false
+is_the_sign b (part.Number n) = false
+is_the_sign b (part.Sign c) = nat_eq c b
+is_the_sign b part.Arrow = false
 
-abbrev pub sign : ℕ → Word Part Here
-sign b = record { says = says_sign b; token = λ x. part.Sign b }
+abbrev pub sign : ℕ → Word Part (Unit {0})
+sign b = record { says = λ p. when (is_the_sign b p) tt; token = λ x. part.Sign b }
 
-abbrev pub says_arrow : Part → Option Here
-says_arrow (part.Name w) = None
-says_arrow (part.Number n) = None
-says_arrow (part.Sign b) = None
-says_arrow part.Arrow = Some here
+abbrev pub is_arrow : Part → Bool
+is_arrow (part.Name w) = false
+is_arrow (part.Number n) = false
+is_arrow (part.Sign b) = false
+is_arrow part.Arrow = true
 
-abbrev pub arrow : Word Part Here
-arrow = record { says = says_arrow; token = λ x. part.Arrow }
+abbrev pub arrow : Word Part (Unit {0})
+arrow = record { says = λ p. when (is_arrow p) tt; token = λ x. part.Arrow }
 
-abbrev pub says_word : List ℕ → Part → Option Here
-says_word v (part.Name w) = if bytes_eq w v then Some here else None
-says_word v (part.Number n) = None
-says_word v (part.Sign b) = None
-says_word v part.Arrow = None
+abbrev pub is_the_word : List ℕ → Part → Bool
+is_the_word v (part.Name w) = bytes_eq w v
+is_the_word v (part.Number n) = false
+is_the_word v (part.Sign b) = false
+is_the_word v part.Arrow = false
 
-abbrev pub the_word : List ℕ → Word Part Here
-the_word v = record { says = says_word v; token = λ x. part.Name v }
+abbrev pub the_word : List ℕ → Word Part (Unit {0})
+the_word v = record { says = λ p. when (is_the_word v p) tt; token = λ x. part.Name v }
 
 abbrev pub says_name : Part → Option (List ℕ)
 says_name (part.Name w) = Some w

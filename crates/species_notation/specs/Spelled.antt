@@ -1,5 +1,5 @@
 -- What a line says, and the parts that say it.
-use Rattle.std.specs.Prelude.{ℕ, Bool, true, false, List, [], ◌∷◌, ◌++◌, codes, Option, Some, None, if◌then◌else◌, nat_eq}
+use Rattle.std.specs.Prelude.{ℕ, zero, suc, Bool, true, false, List, [], ◌∷◌, ◌++◌, codes, Option, Some, None, if◌then◌else◌, nat_eq}
 use Rattle.std.specs.List.{flat_map}
 use Rattle.species_arcs.specs.declared.shapes.Word.{Word}
 use Rattle.species_arcs.specs.declared.shapes.Word.TheVariants as word
@@ -24,6 +24,11 @@ RawOffset = Option RawSpan
 abbrev pub behind : {A : Type 0} → ℕ → (A → List Part) → A → List Part
 behind b parts x = part.Sign b ∷ parts x
 
+-- the sign before each but the first
+abbrev pub separator : ℕ → ℕ → List Part
+separator b zero = []
+separator b (suc n) = part.Sign b ∷ []
+
 abbrev pub listed_parts : {A : Type 0} → ℕ → (A → List Part) → List A → List Part
 listed_parts b parts [] = []
 listed_parts b parts (x ∷ xs) = parts x ++ flat_map (behind b parts) xs
@@ -43,14 +48,27 @@ abbrev pub product_parts : ℕ → Option (List ℕ) → List Part
 product_parts n None = part.Number n ∷ []
 product_parts n (Some w) = if nat_eq n 1 then part.Name w ∷ [] else part.Number n ∷ part.Sign 42 ∷ part.Name w ∷ []
 
+-- the sign before the first summand, and before another
+abbrev pub lead_parts : Bool → Bool → List Part
+lead_parts true negative = minus negative
+lead_parts false negative = plus_minus negative ∷ []
+
 abbrev pub first_parts : Summand → List Part
 first_parts s = minus s.negative ++ product_parts s.number s.name
 
 abbrev pub next_parts : Summand → List Part
 next_parts s = plus_minus s.negative ∷ product_parts s.number s.name
 
+abbrev pub summand_parts : Bool → Summand → List Part
+summand_parts true s = first_parts s
+summand_parts false s = next_parts s
+
+abbrev pub summands_parts : List Summand → List Part
+summands_parts [] = []
+summands_parts (s ∷ ss) = first_parts s ++ flat_map next_parts ss
+
 abbrev pub form_parts : RawForm → List Part
-form_parts f = first_parts f.first ++ flat_map next_parts f.more
+form_parts f = summands_parts (f.first ∷ f.more)
 
 abbrev pub range_parts : RawRange → List Part
 range_parts r = form_parts r.low ++ part.Sign 58 ∷ form_parts r.high

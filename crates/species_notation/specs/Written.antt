@@ -25,7 +25,7 @@ use Rattle.species_notation.specs.declared.raw.RawLine.{RawLine}
 use Rattle.species_notation.specs.declared.raw.RawLine.TheVariants as line
 use Rattle.species_notation.specs.declared.given.Names.{Names}
 use Rattle.species_notation.specs.Parts.{Piece, Solid, Space, text_of}
-use Rattle.species_notation.specs.Spelled.{RawOffset, arc_front, arc_forms, mark_text}
+use Rattle.species_notation.specs.Spelled.{RawOffset, first_parts, next_parts, arc_front, arc_forms, mark_text}
 
 -- ---- what is written, part by part
 
@@ -50,6 +50,11 @@ constant_behind c = if nat_eq (unsigned_abs c) 0 then [] else written_constant c
 abbrev pub closed_with : ℤ → List Summand → RawForm
 closed_with c [] = record { first = written_constant c; more = [] }
 closed_with c (s ∷ ss) = record { first = s; more = ss ++ constant_behind c }
+
+-- the constant where it stands alone (true), and behind terms
+abbrev pub closing_parts : Bool → ℤ → List Part
+closing_parts true c = first_parts (written_constant c)
+closing_parts false c = flat_map next_parts (constant_behind c)
 
 -- the terms in the order of their levels, then the constant
 abbrev pub written_form : List (List ℕ) → Form → RawForm
@@ -94,11 +99,16 @@ is_read dir.Read = true
 is_read dir.Write = false
 is_read dir.Add = false
 
+-- the arc stands on the left (true), or on the right
+abbrev pub is_on : Bool → Arc → Bool
+is_on true a = is_read a.dir
+is_on false a = not (is_read a.dir)
+
 abbrev pub reads_of : List Arc → List Arc
-reads_of arcs = filter (λ a. is_read a.dir) arcs
+reads_of arcs = filter (is_on true) arcs
 
 abbrev pub others_of : List Arc → List Arc
-others_of arcs = filter (λ a. not (is_read a.dir)) arcs
+others_of arcs = filter (is_on false) arcs
 
 -- The reads stand on the left, and the writes and adds on the right.
 abbrev pub written_sides : Names → List Arc → RawLine
@@ -127,6 +137,11 @@ arc_pieces a =
 
 abbrev pub next_arc : RawArc → List Piece
 next_arc a = spaced (part.Sign 94) ++ arc_pieces a
+
+-- the first arc (true), or another one
+abbrev pub arc_after : Bool → RawArc → List Piece
+arc_after true a = arc_pieces a
+arc_after false a = next_arc a
 
 abbrev pub side_pieces : List RawArc → List Piece
 side_pieces [] = Solid (part.Name (codes "none")) ∷ []

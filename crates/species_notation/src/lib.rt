@@ -1,10 +1,15 @@
 //! Species lines: the text of the arcs of a nest, written and read.
 #![tactic(auto)]
 
+mod cursor;
 mod given;
 mod law;
 mod parts;
 mod raw;
+mod refusal;
+mod writing;
 
 pub use given::{GivenArc, GivenDim, Names, SpeciesLine};
 pub use law::law_notation;
+pub use refusal::NotationRefusal;
+pub use writing::{write_arc, write_line};

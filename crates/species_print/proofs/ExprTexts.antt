@@ -15,7 +15,7 @@ use Rattle.species_ast.specs.declared.tree.Unit.{Unit}
 use Rattle.species_ast.specs.declared.tree.Value.{Value}
 use Rattle.species_ast.specs.declared.tree.Value.TheVariants as value
 use Rattle.species_print.specs.Pieces.{Piece, text_of, piece_text, spaced}
-use Rattle.species_print.specs.Expressions.{Operand, expr_step, expr_pieces, array_name, local_name, iter_name, kind_word, unary_sign, binary_sign, binary_level, at_least, behind_unary, bracketed, subscript, literal_pieces}
+use Rattle.species_print.specs.Expressions.{Operand, expr_step, expr_pieces, array_name, local_name, iter_name, kind_words, unary_sign, binary_sign, binary_level, at_least, behind_unary, bracketed, subscript, literal_pieces}
 use Rattle.species_print.specs.Texts.{subscript_text}
 
 -- ---- pieces
@@ -127,9 +127,10 @@ text-Cond u iters c a b =
 
 pub text-Cast : (u : Unit) (iters : List (List ℕ)) (k : Kind) (a : Expr) →
     text_of (expr_pieces u iters (expr.Cast k a)) ≡
-    codes "(" ++ (piece_text (kind_word k) ++ (codes ")" ++ text_of (at_least 11 (a, expr_pieces u iters a))))
+    codes "(" ++ (text_of (kind_words k) ++ (codes ")" ++ text_of (at_least 11 (a, expr_pieces u iters a))))
 text-Cast u iters k a =
-    ap text_of (ap (expr_pieces u iters) (sym (expr.rolls-Cast k a)) ∙ para-roll-Expr (List Piece) (expr_step u iters) (Expr-F.Cast k a))
+    ap text_of (ap (expr_pieces u iters) (sym (expr.rolls-Cast k a)) ∙ para-roll-Expr (List Piece) (expr_step u iters) (Expr-F.Cast k a)) ∙
+    ap (λ t. 40 ∷ t) (text_of-append (kind_words k) _)
 
 pub text-bracketed : (ps : List Piece) → text_of (bracketed true ps) ≡ codes "(" ++ (text_of ps ++ codes ")")
 text-bracketed ps = ap (λ t. 40 ∷ t) (text_of-append ps _)
@@ -137,3 +138,7 @@ text-bracketed ps = ap (λ t. 40 ∷ t) (text_of-append ps _)
 pub text-literal : (z : ℤ) → text_of (literal_pieces (value.Int z)) ≡ signed_decimal z
 text-literal (pos n) = append-nil _
 text-literal (negsuc n) = ap (λ t. 45 ∷ t) (append-nil _)
+
+pub text-long_literal : (z : ℤ) → text_of (literal_pieces (value.Long z)) ≡ signed_decimal z ++ codes "ll"
+text-long_literal (pos n) = append-nil _
+text-long_literal (negsuc n) = ap (λ t. 45 ∷ t) (append-nil _)

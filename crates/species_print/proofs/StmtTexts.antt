@@ -10,7 +10,7 @@ use Rattle.species_ast.specs.declared.tree.Stmt.TheVariants as stmt
 use Rattle.species_ast.specs.declared.tree.Unit.{Unit}
 use Rattle.species_ast.proofs.Folds.{fold_stmt-Assign, fold_stmt-AddTo, fold_stmt-Declare, fold_stmt-SetLocal, fold_stmt-If, fold_stmt-For, fold_stmt-Block, fold_loop, fold_loop-out}
 use Rattle.species_print.specs.Pieces.{Piece, text_of, piece_text, line, spaced, name, punctuator}
-use Rattle.species_print.specs.Expressions.{expr_pieces, array_name, local_name, kind_word}
+use Rattle.species_print.specs.Expressions.{expr_pieces, array_name, local_name, kind_words}
 use Rattle.species_print.specs.Statements.{Layout, all_of, deeper, element, assignment, declaration, initializer, local_kind, if_head, for_head, else_part, atomic_line, close, species_line, stmt_step, loop_layer, stmt_layout, stmt_text, loop_text, without_line, head_at, head_text}
 use Rattle.species_print.specs.Texts.{expr_text, element_text, assignment_text, declaration_text, if_head_text, for_head_text, stmts_text, else_text, species_text, pragma_text}
 use Rattle.species_print.proofs.ExprTexts.{text_of-append, text-subscripts}
@@ -43,7 +43,8 @@ text-declaration : (u : Unit) (iters : List (List ℕ)) (ind : List ℕ) (n : �
     text_of (line ind (declaration u iters n init)) ≡ ind ++ declaration_text u iters n init
 text-declaration u iters ind n init =
     text-line ind (declaration u iters n init) ∙
-    ap (λ t. ind ++ ((piece_text (kind_word (local_kind u n)) ++ (codes " " ++ (local_name u n ++ t))) ++ codes "\n"))
+    ap (λ t. ind ++ (t ++ codes "\n")) (text_of-append (kind_words (local_kind u n)) _) ∙
+    ap (λ t. ind ++ ((text_of (kind_words (local_kind u n)) ++ (codes " " ++ (local_name u n ++ t))) ++ codes "\n"))
     (text_of-append (initializer u iters init) _) ∙
     simp append_assoc refl
 

@@ -12,7 +12,7 @@ use Rattle.species_ast.specs.declared.tree.Unit.{Unit}
 use Rattle.species_ast.proofs.Folds.{fold_stmt-Assign, fold_stmt-AddTo, fold_stmt-Declare, fold_stmt-SetLocal, fold_stmt-If, fold_stmt-For, fold_stmt-Block, fold_loop}
 use Rattle.species_ast.proofs.Induction.{Each, each_all, StmtCases, stmt_ind}
 use Rattle.species_print.specs.Pieces.{Piece, text_of, piece_text, line, punctuator, keyword, name, space}
-use Rattle.species_print.specs.Expressions.{kind_word}
+use Rattle.species_print.specs.Expressions.{kind_words}
 use Rattle.species_print.specs.Statements.{Layout, all_of, deeper, if_head, for_head, else_part, close, species_line, parallel_line, stmt_step, loop_layer, stmt_layout}
 use Rattle.species_print.specs.Units.{include_line, size, array_line, function_line, front, canonical_text}
 use Rattle.species_print.specs.Texts.{include_text, size_text, array_text, front_text, stmts_text}
@@ -38,8 +38,9 @@ text-size n = refl
 
 text-array : (a : Array) → text_of (array_line a) ≡ array_text a
 text-array a =
-    text-line [] (kind_word a.kind ∷ space ∷ name a.name ∷ (flat_map size a.dims ++ punctuator ";" ∷ [])) ∙
-    ap (λ t. (piece_text (kind_word a.kind) ++ (codes " " ++ (a.name ++ t))) ++ codes "\n")
+    text-line [] (kind_words a.kind ++ (space ∷ name a.name ∷ (flat_map size a.dims ++ punctuator ";" ∷ []))) ∙
+    ap (λ t. t ++ codes "\n") (text_of-append (kind_words a.kind) (space ∷ name a.name ∷ (flat_map size a.dims ++ punctuator ";" ∷ []))) ∙
+    ap (λ t. (text_of (kind_words a.kind) ++ (codes " " ++ (a.name ++ t))) ++ codes "\n")
     (text_of-append (flat_map size a.dims) (punctuator ";" ∷ []) ∙ ap (λ t. t ++ codes ";") (text-each size size_text text-size a.dims)) ∙
     simp append_assoc refl
 

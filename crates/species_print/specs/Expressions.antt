@@ -1,5 +1,5 @@
 -- The canonical text of expressions: brackets stand only where C17 6.5 needs them.
-use Rattle.std.specs.Prelude.{ℕ, suc, ◌+◌, pos, negsuc, Bool, true, false, ◌&&◌, ◌||◌, nat_lt, int_lt, if◌then◌else◌, List, [], ◌∷◌, ◌++◌, map, codes, decimal, option_map, unwrap_or, slice_get}
+use Rattle.std.specs.Prelude.{ℕ, suc, ◌+◌, ℤ, pos, negsuc, Bool, true, false, ◌&&◌, ◌||◌, nat_lt, int_lt, if◌then◌else◌, List, [], ◌∷◌, ◌++◌, map, codes, decimal, option_map, unwrap_or, slice_get}
 use Rattle.std.specs.List.{flat_map}
 use Rattle.species_ast.specs.declared.tree.Binary.{Binary}
 use Rattle.species_ast.specs.declared.tree.Binary.TheVariants as binary
@@ -13,7 +13,7 @@ use Rattle.species_ast.specs.declared.tree.Unit.{Unit}
 use Rattle.species_ast.specs.declared.tree.Value.{Value}
 use Rattle.species_ast.specs.declared.tree.Value.TheVariants as value
 use Rattle.species_ast.specs.declared.token.TokenKind.TheVariants as kind
-use Rattle.species_print.specs.Pieces.{Piece, Lexeme, punctuator, keyword, name, number, spaced}
+use Rattle.species_print.specs.Pieces.{Piece, Lexeme, punctuator, keyword, name, number, space, spaced}
 
 -- ---- names: what has no name is written as nothing
 
@@ -27,9 +27,11 @@ local_name u n = unwrap_or (option_map (λ l. l.name) (slice_get u.locals n)) []
 abbrev pub iter_name : List (List ℕ) → ℕ → List ℕ
 iter_name iters level = unwrap_or (slice_get iters level) []
 
-abbrev pub kind_word : Kind → Piece
-kind_word of_kind.Int = keyword "int"
-kind_word of_kind.Unsigned = keyword "unsigned"
+abbrev pub kind_words : Kind → List Piece
+kind_words of_kind.Int = keyword "int" ∷ []
+kind_words of_kind.Unsigned = keyword "unsigned" ∷ []
+kind_words of_kind.Long = keyword "long" ∷ space ∷ keyword "long" ∷ []
+kind_words of_kind.UnsignedLong = keyword "unsigned" ∷ space ∷ keyword "long" ∷ space ∷ keyword "long" ∷ []
 
 -- ---- operators
 
@@ -85,6 +87,8 @@ binary_level binary.BitOr = 3
 abbrev pub is_negative : Value → Bool
 is_negative (value.Int z) = int_lt z (pos 0)
 is_negative (value.Unsigned n) = false
+is_negative (value.Long z) = int_lt z (pos 0)
+is_negative (value.UnsignedLong n) = false
 
 abbrev pub level_at : {X : Type 0} → Expr-F X → ℕ
 level_at (Expr-F.Literal v) = if is_negative v then 11 else 12
@@ -130,10 +134,16 @@ behind_unary op a = bracketed (nat_lt (level_of a.0) 11 || (is_minus op && is_ne
 abbrev pub subscript : List Piece → List Piece
 subscript ps = punctuator "[" ∷ (ps ++ punctuator "]" ∷ [])
 
+-- a number of a signed kind, from the token of its size
+abbrev pub signed_pieces : (ℕ → Piece) → ℤ → List Piece
+signed_pieces token (pos n) = token n ∷ []
+signed_pieces token (negsuc n) = punctuator "-" ∷ token (suc n) ∷ []
+
 abbrev pub literal_pieces : Value → List Piece
-literal_pieces (value.Int (pos n)) = number n ∷ []
-literal_pieces (value.Int (negsuc n)) = punctuator "-" ∷ number (suc n) ∷ []
+literal_pieces (value.Int z) = signed_pieces number z
 literal_pieces (value.Unsigned n) = Lexeme (decimal n ++ codes "u") (kind.Number (value.Unsigned n)) ∷ []
+literal_pieces (value.Long z) = signed_pieces (λ n. Lexeme (decimal n ++ codes "ll") (kind.Number (value.Long (pos n)))) z
+literal_pieces (value.UnsignedLong n) = Lexeme (decimal n ++ codes "ull") (kind.Number (value.UnsignedLong n)) ∷ []
 
 abbrev pub expr_step : Unit → List (List ℕ) → Expr-F Operand → List Piece
 expr_step u iters (Expr-F.Literal v) = literal_pieces v
@@ -146,7 +156,7 @@ expr_step u iters (Expr-F.Binary op a b) =
 expr_step u iters (Expr-F.And a b) = at_least 2 a ++ (spaced (codes "&&") ++ at_least 3 b)
 expr_step u iters (Expr-F.Or a b) = at_least 1 a ++ (spaced (codes "||") ++ at_least 2 b)
 expr_step u iters (Expr-F.Cond c a b) = at_least 1 c ++ (spaced (codes "?") ++ (a.1 ++ (spaced (codes ":") ++ b.1)))
-expr_step u iters (Expr-F.Cast k a) = punctuator "(" ∷ kind_word k ∷ punctuator ")" ∷ at_least 11 a
+expr_step u iters (Expr-F.Cast k a) = punctuator "(" ∷ (kind_words k ++ punctuator ")" ∷ at_least 11 a)
 
 -- `iters` has the names of the loops around the expression, by level
 abbrev pub expr_pieces : Unit → List (List ℕ) → Expr → List Piece

@@ -17,7 +17,7 @@ use Rattle.species_ast.specs.declared.tree.Test.TheVariants as test
 use Rattle.species_ast.specs.declared.tree.Unit.{Unit}
 use Rattle.species_ast.specs.declared.token.TokenKind.TheVariants as kind
 use Rattle.species_print.specs.Pieces.{Piece, Lexeme, punctuator, keyword, name, number, space, spaced, line, text_of}
-use Rattle.species_print.specs.Expressions.{array_name, local_name, kind_word, subscript, expr_pieces}
+use Rattle.species_print.specs.Expressions.{array_name, local_name, kind_words, subscript, expr_pieces}
 
 -- ---- indentation
 
@@ -55,7 +55,7 @@ initializer u iters (Some e) = spaced (codes "=") ++ expr_pieces u iters e
 
 abbrev pub declaration : Unit → List (List ℕ) → ℕ → Option Expr → List Piece
 declaration u iters n init =
-    kind_word (local_kind u n) ∷ space ∷ name (local_name u n) ∷ (initializer u iters init ++ punctuator ";" ∷ [])
+    kind_words (local_kind u n) ++ (space ∷ name (local_name u n) ∷ (initializer u iters init ++ punctuator ";" ∷ []))
 
 -- ---- pragmas (OpenMP 4.5, 2.13.6 and 2.7.1)
 

@@ -8,8 +8,8 @@ use Rattle.species_ast.specs.declared.tree.Stmt.{Stmt}
 use Rattle.species_ast.specs.declared.tree.Array.{Array}
 use Rattle.species_ast.specs.declared.tree.Test.{Test}
 use Rattle.species_ast.specs.declared.tree.Unit.{Unit}
-use Rattle.species_print.specs.Pieces.{text_of, piece_text, spaced}
-use Rattle.species_print.specs.Expressions.{array_name, local_name, kind_word, expr_pieces}
+use Rattle.species_print.specs.Pieces.{text_of, spaced}
+use Rattle.species_print.specs.Expressions.{array_name, local_name, kind_words, expr_pieces}
 use Rattle.species_print.specs.Statements.{deeper, local_kind, initializer, species_line, test_sign, step_pieces, stmt_text}
 
 abbrev pub expr_text : Unit → List (List ℕ) → Expr → List ℕ
@@ -27,7 +27,7 @@ assignment_text u iters sign value = sign ++ (expr_text u iters value ++ codes "
 
 abbrev pub declaration_text : Unit → List (List ℕ) → ℕ → Option Expr → List ℕ
 declaration_text u iters n init =
-    piece_text (kind_word (local_kind u n)) ++ (codes " " ++ (local_name u n ++ (text_of (initializer u iters init) ++ codes ";\n")))
+    text_of (kind_words (local_kind u n)) ++ (codes " " ++ (local_name u n ++ (text_of (initializer u iters init) ++ codes ";\n")))
 
 abbrev pub if_head_text : Unit → List (List ℕ) → List ℕ → Expr → List ℕ
 if_head_text u iters ind test = ind ++ (codes "if (" ++ (expr_text u iters test ++ codes ") {\n"))
@@ -73,7 +73,7 @@ abbrev pub size_text : ℕ → List ℕ
 size_text n = codes "[" ++ (decimal n ++ codes "]")
 
 abbrev pub array_text : Array → List ℕ
-array_text a = piece_text (kind_word a.kind) ++ (codes " " ++ (a.name ++ (flat_map size_text a.dims ++ codes ";\n")))
+array_text a = text_of (kind_words a.kind) ++ (codes " " ++ (a.name ++ (flat_map size_text a.dims ++ codes ";\n")))
 
 abbrev pub front_text : Unit → List ℕ
 front_text u =

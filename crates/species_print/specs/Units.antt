@@ -5,7 +5,7 @@ use Rattle.species_ast.specs.declared.tree.Array.{Array}
 use Rattle.species_ast.specs.declared.tree.Unit.{Unit}
 use Rattle.species_ast.specs.declared.token.TokenKind.TheVariants as kind
 use Rattle.species_print.specs.Pieces.{Piece, Lexeme, punctuator, keyword, name, number, space, line, text_of}
-use Rattle.species_print.specs.Expressions.{kind_word}
+use Rattle.species_print.specs.Expressions.{kind_words}
 use Rattle.species_print.specs.Statements.{stmt_layout, all_of, indentation, close}
 
 abbrev pub include_line : List ℕ → List Piece
@@ -15,7 +15,7 @@ abbrev pub size : ℕ → List Piece
 size n = punctuator "[" ∷ number n ∷ punctuator "]" ∷ []
 
 abbrev pub array_line : Array → List Piece
-array_line a = line [] (kind_word a.kind ∷ space ∷ name a.name ∷ (flat_map size a.dims ++ punctuator ";" ∷ []))
+array_line a = line [] (kind_words a.kind ++ (space ∷ name a.name ∷ (flat_map size a.dims ++ punctuator ";" ∷ [])))
 
 abbrev pub function_line : List ℕ → List Piece
 function_line function =

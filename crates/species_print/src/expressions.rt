@@ -5,7 +5,7 @@ ghost use Rattle.species_print.specs.Expressions.{binary_level, is_minus, is_neg
 ghost use Rattle.species_print.specs.Texts.{subscript_text};
 
 use crate::words::{
-    array_name, iter_name, kind_word, local_name, put, put_literal, spaced_binary, unary_sign,
+    array_name, iter_name, kind_words, local_name, put, put_literal, spaced_binary, unary_sign,
 };
 use species_ast::{Binary, Expr, Name, OutOfMemory, Unary, Unit, Value};
 
@@ -34,7 +34,7 @@ fn is_minus(op: Unary) -> bool
     }
 }
 
-fn is_below_zero(n: i32) -> bool
+fn is_below_zero(n: i64) -> bool
     ensures { result ≡ int_lt n (pos 0) }
 {
     n < 0
@@ -44,8 +44,9 @@ fn is_negative(value: Value) -> bool
     ensures { result ≡ is_negative value }
 {
     match value {
-        Value::Int(n) => is_below_zero(n),
-        Value::Unsigned(_) => false,
+        Value::Int(n) => is_below_zero(i64::from(n)),
+        Value::Long(n) => is_below_zero(n),
+        Value::Unsigned(_) | Value::UnsignedLong(_) => false,
     }
 }
 
@@ -135,7 +136,7 @@ pub(crate) fn print_expr(
         }
         Expr::Cast(kind, a) => {
             put(b"(", out)?;
-            put(kind_word(*kind), out)?;
+            put(kind_words(*kind), out)?;
             put(b")", out)?;
             print_operand(unit, iters, 11, a.get(), out)?;
             Ok(())

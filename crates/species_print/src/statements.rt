@@ -6,7 +6,7 @@ ghost use Rattle.species_print.specs.Statements.{indentation, deeper, stmt_text,
 ghost use Rattle.species_print.specs.Texts.{element_text, assignment_text, declaration_text, for_start_text, for_test_text, for_end_text, for_head_text, if_head_text, stmts_text, else_text, pragma_text, species_text};
 
 use crate::expressions::{print_expr, print_subs};
-use crate::words::{array_name, kind_word, local_kind, local_name, put, put_number, spaced_test};
+use crate::words::{array_name, kind_words, local_kind, local_name, put, put_number, spaced_test};
 use species_ast::{Expr, LineText, Loop, Name, OutOfMemory, Stmt, Test, Unit};
 use sqlite_items::Items;
 use std::alloc::Global;
@@ -216,11 +216,11 @@ fn print_step(iter: &[u8], step: i32, out: &mut Vec<u8>) -> Result<(), OutOfMemo
         -1 => put(b"--", out)?,
         n if n < 0 => {
             put(b" -= ", out)?;
-            put_number(n.unsigned_abs(), out)?;
+            put_number(u64::from(n.unsigned_abs()), out)?;
         }
         n => {
             put(b" += ", out)?;
-            put_number(n.unsigned_abs(), out)?;
+            put_number(u64::from(n.unsigned_abs()), out)?;
         }
     }
     Ok(())
@@ -264,7 +264,7 @@ fn print_declaration(
 ) -> Result<(), OutOfMemory>
     ensures { OnOk result (out.new.items ≡ out.old.items ++ declaration_text unit.now iters.now local init.now) }
 {
-    put(kind_word(local_kind(unit, local)), out)?;
+    put(kind_words(local_kind(unit, local)), out)?;
     put(b" ", out)?;
     put(local_name(unit, local), out)?;
     print_initializer(unit, iters, init, out)?;

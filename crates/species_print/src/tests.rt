@@ -12,7 +12,8 @@ use std::alloc::Global;
 use std::test::Fail;
 
 // ---- expressions in postfix order: `a` to `c` are locals, `i` and `j` iterators, `A` to `C` take
-// one subscript and `X` and `Y` two, `n` is a minus before its operand, `m` the literal -1
+// one subscript and `X` and `Y` two, `n` is a minus before its operand, `m` the literal -1; `k`, `l`
+// and `x` are literals of 64 bits, `u`, `L` and `U` casts
 
 fn pop(alloc: Global, stack: &mut Vec<Expr>) -> Result<Boxed<Expr>, OutOfMemory> {
     let top = stack.pop().ok_or(OutOfMemory)?;
@@ -68,6 +69,11 @@ fn term(alloc: Global, code: u8, stack: &mut Vec<Expr>) -> Result<Expr, OutOfMem
         b'?' => cond(alloc, stack),
         b'n' => unary(alloc, Unary::Neg, stack),
         b'u' => Ok(Expr::Cast(Kind::Unsigned, pop(alloc, stack)?)),
+        b'L' => Ok(Expr::Cast(Kind::Long, pop(alloc, stack)?)),
+        b'U' => Ok(Expr::Cast(Kind::UnsignedLong, pop(alloc, stack)?)),
+        b'l' => Ok(Expr::Literal(Value::Long(i64::MAX))),
+        b'k' => Ok(Expr::Literal(Value::Long(-1))),
+        b'x' => Ok(Expr::Literal(Value::UnsignedLong(u64::MAX))),
         _ => unary(alloc, Unary::Not, stack),
     }
 }
@@ -347,6 +353,7 @@ fn empty(alloc: Global, test: Test, step: i32) -> Result<Stmt, OutOfMemory> {
 fn branches_blocks_and_steps(rt: HostRuntime) -> Result<(), Fail> {
     let alloc = rt.alloc();
     let text = b"int h[10];
+unsigned long long w[2];
 void k(void) {
     for (int i = 9; i >= 0u; i -= 3) {
         if (i & 5) {
@@ -365,6 +372,9 @@ void k(void) {
 ";
     let mut made = unit(alloc, list(alloc, choice(alloc)?)?)?;
     made.arrays.push(array(alloc, b"h", &[10])?)?;
+    let mut wide = array(alloc, b"w", &[2])?;
+    wide.kind = Kind::UnsignedLong;
+    made.arrays.push(wide)?;
     made.body.push(empty(alloc, Test::Gt, -1)?)?;
     made.body.push(empty(alloc, Test::Le, 2)?)?;
     assert_eq!(rt; printed(alloc, &made)?.as_slice(), text.as_slice());
@@ -388,6 +398,16 @@ fn brackets_stand_where_they_are_needed(rt: HostRuntime) -> Result<(), Fail> {
         (b"01abc??".as_slice(), b"0 ? 1 : a ? b : c".as_slice()),
         (b"a1+u".as_slice(), b"(unsigned)(a + 1)".as_slice()),
         (b"aun".as_slice(), b"-(unsigned)a".as_slice()),
+        (
+            b"lx+".as_slice(),
+            b"9223372036854775807ll + 18446744073709551615ull".as_slice(),
+        ),
+        (b"kn".as_slice(), b"-(-1ll)".as_slice()),
+        (b"aLn".as_slice(), b"-(long long)a".as_slice()),
+        (
+            b"a1+U".as_slice(),
+            b"(unsigned long long)(a + 1)".as_slice(),
+        ),
     ];
     for (codes, want) in cases {
         let made = unit(alloc, list(alloc, set(alloc, codes)?)?)?;

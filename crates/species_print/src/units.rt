@@ -6,7 +6,7 @@ ghost use Rattle.species_print.specs.Units.{front, canonical_text};
 ghost use Rattle.species_print.specs.Texts.{include_text, size_text, array_text, front_text};
 
 use crate::statements::print_all;
-use crate::words::{kind_word, put, put_number};
+use crate::words::{kind_words, put, put_number};
 use species_ast::{Array, Name, OutOfMemory, Unit};
 use std::alloc::Global;
 
@@ -74,7 +74,7 @@ fn put_arrays(arrays: &[Array], out: &mut Vec<u8>) -> Result<(), OutOfMemory>
 fn put_array(array: &Array, out: &mut Vec<u8>) -> Result<(), OutOfMemory>
     ensures { OnOk result (out.new.items ≡ out.old.items ++ array_text array.now) }
 {
-    put(kind_word(array.kind), out)?;
+    put(kind_words(array.kind), out)?;
     put(b" ", out)?;
     put(array.name.as_slice(), out)?;
     put_sizes(array.dims.as_slice(), out)?;
@@ -95,7 +95,7 @@ fn put_size(size: u32, out: &mut Vec<u8>) -> Result<(), OutOfMemory>
     ensures { OnOk result (out.new.items ≡ out.old.items ++ size_text size) }
 {
     put(b"[", out)?;
-    put_number(size, out)?;
+    put_number(u64::from(size), out)?;
     put(b"]", out)?;
     Ok(())
 }

@@ -1,8 +1,8 @@
 //! Names, numbers and signs.
 ghost use Rattle.std.specs.Prelude.{◌≡◌, ◌++◌, [], OnOk, OnErr, decimal, codes, slice_get, unwrap_or, option_map};
 ghost use Rattle.std.specs.Fmt.{signed_decimal};
-ghost use Rattle.species_print.specs.Pieces.{text_of, piece_text, spaced};
-ghost use Rattle.species_print.specs.Expressions.{array_name, local_name, iter_name, kind_word, literal_pieces, binary_sign, unary_sign};
+ghost use Rattle.species_print.specs.Pieces.{text_of, spaced};
+ghost use Rattle.species_print.specs.Expressions.{array_name, local_name, iter_name, kind_words, literal_pieces, binary_sign, unary_sign};
 ghost use Rattle.species_print.specs.Statements.{local_kind, test_sign};
 
 use itoa::{Buffer, Integer};
@@ -16,7 +16,7 @@ pub(crate) fn put(text: &[u8], out: &mut Vec<u8>) -> Result<(), OutOfMemory>
     Ok(())
 }
 
-pub(crate) fn put_number(n: u32, out: &mut Vec<u8>) -> Result<(), OutOfMemory>
+pub(crate) fn put_number(n: u64, out: &mut Vec<u8>) -> Result<(), OutOfMemory>
     ensures { OnOk result (out.new.items ≡ out.old.items ++ decimal n) }
 {
     let mut buffer = Buffer::new();
@@ -24,7 +24,7 @@ pub(crate) fn put_number(n: u32, out: &mut Vec<u8>) -> Result<(), OutOfMemory>
     Ok(())
 }
 
-pub(crate) fn put_signed(n: i32, out: &mut Vec<u8>) -> Result<(), OutOfMemory>
+fn put_signed(n: i64, out: &mut Vec<u8>) -> Result<(), OutOfMemory>
     ensures { OnOk result (out.new.items ≡ out.old.items ++ signed_decimal n) }
 {
     let mut buffer = Buffer::new();
@@ -37,12 +37,22 @@ pub(crate) fn put_literal(value: Value, out: &mut Vec<u8>) -> Result<(), OutOfMe
 {
     match value {
         Value::Int(n) => {
-            put_signed(n, out)?;
+            put_signed(i64::from(n), out)?;
             Ok(())
         }
         Value::Unsigned(n) => {
-            put_number(n, out)?;
+            put_number(u64::from(n), out)?;
             put(b"u", out)?;
+            Ok(())
+        }
+        Value::Long(n) => {
+            put_signed(n, out)?;
+            put(b"ll", out)?;
+            Ok(())
+        }
+        Value::UnsignedLong(n) => {
+            put_number(n, out)?;
+            put(b"ull", out)?;
             Ok(())
         }
     }
@@ -87,12 +97,14 @@ pub(crate) fn iter_name(iters: &[Name], level: u32) -> &[u8]
     }
 }
 
-pub(crate) fn kind_word(kind: Kind) -> &'static [u8]
-    ensures { result.now ≡ piece_text (kind_word kind) }
+pub(crate) fn kind_words(kind: Kind) -> &'static [u8]
+    ensures { result.now ≡ text_of (kind_words kind) }
 {
     match kind {
         Kind::Int => b"int",
         Kind::Unsigned => b"unsigned",
+        Kind::Long => b"long long",
+        Kind::UnsignedLong => b"unsigned long long",
     }
 }
 

@@ -1,11 +1,10 @@
 -- Laws of what holds of every access and of all that is computed, and how a run that ended is taken apart.
-use Rattle.std.proofs.Common.{◌≡◌, refl, ap, sym, ◌∙◌, subst, List, [], ◌∷◌, ◌++◌, Bool, true, false, if◌then◌else◌}
+use Rattle.std.proofs.Common.{◌≡◌, refl, ap, sym, ◌∙◌, subst, List, [], ◌++◌, Bool, true, false, if◌then◌else◌}
 use Rattle.std.proofs.lemmas.List.{append-nil, append_assoc}
-use Rattle.species_ast.specs.declared.tree.Value.{Value}
 use Rattle.species_ast.specs.Accesses.{Joins, Cells, cell, Tree, Ret, Stop, Read, Write, Add, then_do, Outcome, Ended, Stopped, run, Access, access, Reads, Writes, Adds, accesses}
 use Rattle.species_ast.proofs.AccessLaws.{go_on, accesses_on, run-then_do, accesses-then_do}
 use Rattle.species_ast.proofs.Induction.{Each}
-use Rattle.species_runs.specs.Every.{Anything, Every, Gives}
+use Rattle.species_runs.specs.Every.{Every, Gives}
 
 -- ---- parts of a piece of program
 

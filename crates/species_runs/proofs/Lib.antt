@@ -1,7 +1,13 @@
 pub mod AppliedLaws
+pub mod ArraysLaws
 pub mod EveryLaws
+pub mod FrameLaws
 pub mod IndexLaws
+pub mod OperatorLaws
 pub mod PlaceLaws
 pub mod ReadLaws
+pub mod ScopeLaws
+pub mod SiteLaws
 pub mod TurnLaws
+pub mod ValueLaws
 pub mod WalkLaws

@@ -1,19 +1,17 @@
 -- What a piece of program does depends on where it stands through the places of its statements alone.
 use Rattle.std.proofs.Common.{◌≡◌, refl, ap, sym, ◌∙◌, subst, ℕ, suc, ◌+◌, List, [], ◌∷◌, ◌++◌, map, length, Option, Some, None, Bool, true, false, if◌then◌else◌, ℤ, Ok, Err}
-use Rattle.species_ast.specs.declared.action.Action.{Action}
 use Rattle.species_ast.specs.declared.trap.Trap.TheVariants as trap
 use Rattle.species_ast.specs.declared.tree.Binary.TheVariants as binary
 use Rattle.species_ast.specs.declared.tree.Expr.{Expr}
 use Rattle.species_ast.specs.declared.tree.Kind.TheVariants as kind
-use Rattle.species_ast.specs.declared.tree.Loop.{Loop, out-Loop, roll-Loop}
+use Rattle.species_ast.specs.declared.tree.Loop.{roll-Loop}
 use Rattle.species_ast.specs.declared.tree.Stmt.{Stmt}
-use Rattle.species_ast.specs.declared.tree.Stmt.TheVariants as stmt
 use Rattle.species_ast.specs.declared.tree.Test.{Test}
 use Rattle.species_ast.specs.declared.tree.Value.{Value}
 use Rattle.species_ast.specs.Operators.{Answer, converted, is_true, truth, number_of, reduced, unary_of, binary_of}
-use Rattle.species_ast.specs.Accesses.{Joins, Cells, cell, Cause, Trapped, Forbidden, Element, Site, Tree, Ret, Stop, Read, Write, Add, then_do, run, read_of, write_of, add_of, acts}
-use Rattle.species_ast.specs.Evaluation.{Frame, Context, Spot, Sense, sense, site_at, known, answered, tested, trap_of, values_of, target_of, indices_in, sizes_of, element_at, elements_in, array_kind, local_kind, local_of, with_local}
-use Rattle.species_ast.specs.Run.{Step, inside, outside, turns, looping, assignment, addition, adding, setting, declaring, branching, initial, spot, plain, step, loop_of, does_list, does_scope, iterator_values, Takes, iteration, iteration_in, actions}
+use Rattle.species_ast.specs.Accesses.{Joins, Cells, cell, Trapped, Forbidden, Site, Tree, Ret, Stop, Read, Write, Add, then_do, run, read_of, write_of, add_of, acts}
+use Rattle.species_ast.specs.Evaluation.{Frame, Context, Spot, sense, site_at, known, answered, tested, trap_of, values_of, target_of, indices_in, sizes_of, element_at, elements_in, array_kind, local_kind, local_of, with_local}
+use Rattle.species_ast.specs.Run.{Step, inside, outside, turns, looping, assignment, addition, adding, setting, declaring, branching, initial, spot, step, does_list, does_scope, iterator_values, Takes, iteration, iteration_in, actions}
 use Rattle.species_ast.proofs.Induction.{Each, each_all, expr_ind, stmt_ind}
 use Rattle.species_ast.proofs.RunLaws.{sense-Literal, sense-Iter, sense-Local, sense-Elem, sense-Unary, sense-Binary, sense-And, sense-Or, sense-Cond, sense-Cast, step-Assign, step-AddTo, step-Declare, step-SetLocal, step-If, step-For, step-Block, loop-roll}
 use Rattle.species_runs.specs.Places.{only_place, placed, DoSame}

@@ -1,7 +1,6 @@
 -- Pieces of program as what they do, and the places of their statements in the text.
-use Rattle.std.specs.Prelude.{◌≡◌, [], ℕ}
+use Rattle.std.specs.Prelude.{◌≡◌, []}
 use Rattle.species_ast.specs.Accesses.{Site, Tree, Ret, Stop, Read, Write, Add}
-use Rattle.species_ast.specs.Evaluation.{Frame, Spot}
 
 -- a site of which only the place is known
 abbrev pub only_place : Site → Site

@@ -16,8 +16,7 @@ returns-then-piece-most-clause-stopped g c =
     let f = c.loop-piece.invariant.0 in
     let piece = c.in-Ok.piece.now in
     let upto : length piece ≤ c.min-size.result = search rules in
-    let room : c.loop-piece.handed + c.min-size.result ≤ c.args.limit + 1 = search rules in
-    (
+    let room : c.loop-piece.handed + c.min-size.result ≤ c.args.limit + 1 = search rules in (
       f.0 ++ piece,
       omega (arith, upto, room, f.1, c.if-piece-most.true, c.loop-piece.invariant.1, length-append f.0 piece),
       gave_more _ _ _ f.0 piece f.2 c.in-Ok.ensures.took,

@@ -1,0 +1,9 @@
+use Rattle.species_lexer.specs.SeenCut.{seen_cut}
+use Rattle.species_lexer.proofs.Feeding.{ended_next}
+use Rattle.species_lexer.proofs.cut.Cut.add_ended.Goals as goal
+
+pub loop-piece-preserved : goal.loop-piece-preserved
+loop-piece-preserved c =
+    let l = c.loop-piece in
+    ended_next (seen_cut c.args.self.now) (seen_cut l.self) (seen_cut c.add.new.self) c.args.bytes.now c.behind-rest.result.now l.at c.in-Ok.n c.length_in.result c.in-Some.piece
+    l.invariant.0 l.invariant.1 l.invariant.2 c.behind-rest.ensures c.in-Some.ensures.value c.length_in.ensures c.if-length_in-rest.false c.in-Ok.ensures

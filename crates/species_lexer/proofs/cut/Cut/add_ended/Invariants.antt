@@ -1,0 +1,12 @@
+use Rattle.std.proofs.Common.{◌≡◌, ◌≤◌, ◌-◌, ◌+◌, ◌++◌, ℕ, List, length, drop}
+use Rattle.species_lexer.specs.Fed.{with_rest}
+use Rattle.species_lexer.specs.SeenCut.{seen_cut}
+use Rattle.species_lexer.proofs.cut.Cut.add_ended.Given as goal
+
+abbrev pub invariant-loop-piece : goal.invariant-loop-piece
+invariant-loop-piece l =
+    (l.at ≤ length l.bytes) × (l.self.table.length ≡ l.initial.self.table.length + l.at)
+    × ((more : List ℕ) → with_rest (seen_cut l.initial.self) (l.bytes ++ more) ≡ with_rest (seen_cut l.self) (drop l.at l.bytes ++ more))
+
+abbrev pub decreases-loop-piece : goal.decreases-loop-piece
+decreases-loop-piece l = length l.bytes - l.at

@@ -1,0 +1,14 @@
+pub mod ApartLaws
+pub mod ArrivalLaws
+pub mod FitLaws
+pub mod Inversion
+pub mod InwardLaws
+pub mod IteratorArrivals
+pub mod MarkLaws
+pub mod NestFits
+pub mod NestLaws
+pub mod QuietLaws
+pub mod RunningLaws
+pub mod StaysLaws
+pub mod SumLaws
+pub mod Unique

@@ -1,0 +1,4 @@
+pub mod Arrivals
+pub mod Effects
+pub mod Meetings
+pub mod Nests
