@@ -14,3 +14,5 @@ pub mod PositionLaws
 pub mod NestLaws
 pub mod LocationLaws
 pub mod RunningTaken
+pub mod NestReferences
+pub mod UnitLaws

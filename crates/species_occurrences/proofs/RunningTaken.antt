@@ -21,7 +21,7 @@ use Rattle.species_runs.specs.Every.{Anything}
 use Rattle.species_runs.proofs.EveryLaws.{every_ended}
 use Rattle.species_nests.specs.Arrivals.{header, Running, Comes, here, in_turn, in_body, in_otherwise, in_block, ComesIn, first, later, ComesTo}
 use Rattle.species_nests.proofs.IteratorArrivals.{GoesInside, comes_in_iters}
-use Rattle.species_occurrences.specs.Iterators.{IsInt, AreInts, MayTake, AreTaken, ranges_of}
+use Rattle.species_occurrences.specs.Iterators.{IsInt, AreInts, MayTake, AreTaken, AreTheirs, ranges_of}
 use Rattle.species_occurrences.specs.Regular.{as_marked, regular_at, regular_loop, is_regular}
 use Rattle.species_occurrences.proofs.HeaderLaws.{HasBounds, AllTaken, header_taken}
 use Rattle.species_occurrences.proofs.NestLaws.{unconditional}
@@ -32,11 +32,7 @@ use Rattle.species_occurrences.proofs.TakenLaws.{taken_inside, ints_inside}
 abbrev pub IsBounded : Loop → Type 0
 IsBounded l = HasBounds (out-Loop l)
 
--- these are values that the iterators of these loops take, one in the other, and numbers of the kind `int`
-abbrev pub AreTheirs : List Loop → List ℤ → Type 0
-AreTheirs around iters = AreTaken (ranges_of [] around) iters × AreInts iters
-
--- if the loops have bounds
+-- these are values of the iterators of these loops, if the loops have bounds
 abbrev pub AreIterators : List Loop → List ℤ → Type 0
 AreIterators around iters = Each IsBounded around → AreTheirs around iters
 
@@ -71,7 +67,7 @@ goes_inside join w l around at f m begun is i q ended c bounded =
 
 -- ---- the loops around a running have bounds
 
-loop_regular : (adds : Adding) (l : Loop) → is_regular adds (stmt.For l) ≡ true → IsBounded l × (all_true (map (is_regular adds) (out-Loop l).body) ≡ true)
+pub loop_regular : (adds : Adding) (l : Loop) → is_regular adds (stmt.For l) ≡ true → IsBounded l × (all_true (map (is_regular adds) (out-Loop l).body) ≡ true)
 loop_regular adds l t = bounds_of (out-Loop l) (all_true (map (is_regular adds) (out-Loop l).body)) (sym (fold_stmt-For (regular_at adds) regular_loop l ∙ fold_loop-out (regular_at adds) regular_loop l) ∙ t)
 
 -- so have those around this running, and the loop itself is regular

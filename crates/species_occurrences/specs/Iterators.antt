@@ -31,3 +31,7 @@ AreTaken (r ∷ path) (i ∷ is) = MayTake r i × AreTaken path is
 abbrev pub ranges_of : List Range → List Loop → List Range
 ranges_of path [] = path
 ranges_of path (l ∷ ls) = ranges_of (path ++ range_of path (out-Loop l) ∷ []) ls
+
+-- these are values that the iterators of these loops take, one in the other, and numbers of the kind `int`
+abbrev pub AreTheirs : List Loop → List ℤ → Type 0
+AreTheirs around iters = AreTaken (ranges_of [] around) iters × AreInts iters

@@ -2,3 +2,4 @@ pub mod Iterators
 pub mod Affine
 pub mod Made
 pub mod Regular
+pub mod Law

@@ -3,3 +3,14 @@
 //! The references stand in `species_ast`, and what holds of every access in `species_runs`. Nothing
 //! here runs.
 #![tactic(auto)]
+
+ghost use Rattle.species_occurrences.specs.Law.{AccessesAreMade, AffineHaveTheirForms, IterationsAreTaken, RunningsAreTaken};
+
+/// In each run of a well made unit every access inside a loop is made by one of the loop's
+/// references, affine expressions give the values of their forms, and iterators lie in their ranges.
+pub fn law_accesses()
+    ensures made { AccessesAreMade }
+    ensures affine { AffineHaveTheirForms }
+    ensures runnings { RunningsAreTaken }
+    ensures iterations { IterationsAreTaken }
+{}
