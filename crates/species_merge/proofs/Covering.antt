@@ -30,14 +30,16 @@ which k n l = grind arith
 pub none_next : {X : Type 0} (P : X → Type 0) (xs : List X) (i : ℕ) (d : X) → i < length xs → ((k : ℕ) (e : X) → k < i → P (slice_index_or xs k e) → ⊥) → (P (slice_index_or xs i d) → ⊥)
     → (k : ℕ) (e : X) → k < i + 1 → P (slice_index_or xs k e) → ⊥
 none_next P xs i d lt none here k e l p = elim (which k i l) [
-    inl below ↦ none k e below p
-  | inr same ↦ here (subst P (get_or_default xs i e d lt) (subst (λ (j : ℕ). P (slice_index_or xs j e)) same p)) ]
+  | inl below ↦ none k e below p
+  | inr same ↦ here (subst P (get_or_default xs i e d lt) (subst (λ (j : ℕ). P (slice_index_or xs j e)) same p))
+]
 
 pub all_next : {X : Type 0} (P : X → Type 0) (xs : List X) (i : ℕ) (d : X) → i < length xs → ((k : ℕ) (e : X) → k < i → P (slice_index_or xs k e)) → P (slice_index_or xs i d)
     → (k : ℕ) (e : X) → k < i + 1 → P (slice_index_or xs k e)
 all_next P xs i d lt all here k e l = elim (which k i l) [
-    inl below ↦ all k e below
-  | inr same ↦ subst (λ (j : ℕ). P (slice_index_or xs j e)) (sym same) (subst P (get_or_default xs i d e lt) here) ]
+  | inl below ↦ all k e below
+  | inr same ↦ subst (λ (j : ℕ). P (slice_index_or xs j e)) (sym same) (subst P (get_or_default xs i d e lt) here)
+]
 
 -- ---- the way
 
@@ -64,10 +66,11 @@ before_or x v = grind (arith, ints)
 -- one number
 pub covered_step : (xs : List Span) (a : ℤ) (t : ℕ) (x : ℤ) → CoveredTo xs a t x → t ∣ unsigned_abs (x -ℤ a) → Any (λ b. IsInSpan b x) xs → CoveredTo xs a t (x +ℤ pos t)
 covered_step xs a t x h d has v p q e = elim (before_or x v) [
-    inl before ↦ h v p before e
+  | inl before ↦ h v p before e
   | inr after ↦
-        let apart : t ∣ unsigned_abs (v -ℤ x) = dvd_ways t v a x e (dvd_turned t x a d) in
-        subst (λ z. Any (λ b. IsInSpan b z) xs) (same_of x v after (close_zero t (unsigned_abs (v -ℤ x)) apart (far_of x v t after q))) has ]
+      let apart : t ∣ unsigned_abs (v -ℤ x) = dvd_ways t v a x e (dvd_turned t x a d) in
+      subst (λ z. Any (λ b. IsInSpan b z) xs) (same_of x v after (close_zero t (unsigned_abs (v -ℤ x)) apart (far_of x v t after q))) has
+]
 
 pub covered_end : (xs : List Span) (a b : ℤ) (t : ℕ) (x : ℤ) → CoveredTo xs a t x → b <ℤ x → Covers xs (record { low = a; high = b; stride = t })
 covered_end xs a b t x all past v p = all v p.0 (omega (arith, ints, p.1, past)) p.2
@@ -86,10 +89,11 @@ one_covered xs a b t x p q d h = h x (p, q, d)
 
 pub covered_stretch : (xs : List Span) (a : ℤ) (t : ℕ) (x edge next : ℤ) → CoveredTo xs a t x → t ∣ unsigned_abs (x -ℤ a) → Covers xs (record { low = x; high = edge; stride = t }) → IsBehind x edge t next → CoveredTo xs a t next
 covered_stretch xs a t x edge next h d cover is v p q e = elim (before_or x v) [
-    inl before ↦ h v p before e
+  | inl before ↦ h v p before e
   | inr after ↦
-        let apart : t ∣ unsigned_abs (v -ℤ x) = dvd_ways t v a x e (dvd_turned t x a d) in
-        within after apart (before_or (edge +ℤ pos 1) v) ]
+      let apart : t ∣ unsigned_abs (v -ℤ x) = dvd_ways t v a x e (dvd_turned t x a d) in
+      within after apart (before_or (edge +ℤ pos 1) v)
+]
   where
     within : x ≤ℤ v → t ∣ unsigned_abs (v -ℤ x) → (v <ℤ (edge +ℤ pos 1)) ⊎ ((edge +ℤ pos 1) ≤ℤ v) → Any (λ b. IsInSpan b v) xs
     within after apart (inl inside) = cover v (after, omega (arith, ints, inside), apart)
@@ -129,12 +133,14 @@ enough xs x edge t last ahead settled (inr p) first v i =
     let has : Any (λ b. IsInSpan b back) xs = first back (omega (arith, ints), within, on) in
     let both : All (λ b. IsSettled x edge b × ((b.low ≤ℤ x) → (x ≤ℤ b.high) → b.stride ∣ period)) xs = λ k d l. (settled k d l, p.3 k d l) in
     any_with (λ b. IsInSpan b back) (λ b. IsSettled x edge b × ((b.low ≤ℤ x) → (x ≤ℤ b.high) → b.stride ∣ period)) (λ b. IsInSpan b v) xs
-      (λ b place s. moves b back (omega (arith, ints)) (omega (arith, ints, moved, i.1)) whole place s.0 s.1) has both
+    (λ b place s. moves b back (omega (arith, ints)) (omega (arith, ints, moved, i.1)) whole place s.0 s.1) has both
   where
     moves : (b : Span) (back : ℤ) → x ≤ℤ back → back ≤ℤ edge → p.0 ∣ unsigned_abs (v -ℤ back) → IsInSpan b back → IsSettled x edge b → ((b.low ≤ℤ x) → (x ≤ℤ b.high) → b.stride ∣ p.0) → IsInSpan b v
-    moves b back from to whole place (inl on) divides =
-        (omega (arith, ints, on.0, i.0), omega (arith, ints, on.1, i.1),
-         dvd_ways b.stride v back b.low (dvd_through b.stride p.0 (unsigned_abs (v -ℤ back)) (divides on.0 (omega (arith, ints, on.1, ahead))) whole) place.2)
+    moves b back from to whole place (inl on) divides = (
+      omega (arith, ints, on.0, i.0),
+      omega (arith, ints, on.1, i.1),
+      dvd_ways b.stride v back b.low (dvd_through b.stride p.0 (unsigned_abs (v -ℤ back)) (divides on.0 (omega (arith, ints, on.1, ahead))) whole) place.2,
+    )
     moves b back from to whole place (inr (inl later)) divides = absurd (omega (arith, ints, later, to, place.0))
     moves b back from to whole place (inr (inr earlier)) divides = absurd (omega (arith, ints, earlier, from, place.1))
 
@@ -162,7 +168,7 @@ multiple_of a b g most h p q =
     let second : b ≡ (b / g) * g = quotient g b h.1 in
     let turns = b / g in
     let same : (a / g) * b ≡ a * turns =
-        ap (λ (z : ℕ). (a / g) * z) (second ∙ mul_swap turns g) ∙ sym (mul_assoc (a / g) g turns) ∙ ap (λ (z : ℕ). z * turns) (sym first) in
+    ap (λ (z : ℕ). (a / g) * z) (second ∙ mul_swap turns g) ∙ sym (mul_assoc (a / g) g turns) ∙ ap (λ (z : ℕ). z * turns) (sym first) in
     (both_some a turns p (product_some b turns g second q), inr (dvd-mul_right a turns, subst (λ (z : ℕ). b ∣ z) same (dvd-mul_left b (a / g))))
   where
     mul_swap : (m n : ℕ) → m * n ≡ n * m
@@ -238,6 +244,7 @@ period_next xs i d at stride most p q lt h some kept here = record {
     own (inl large) o = inl large
     own (inr divides) (inl large) = inl (multiple_above most p q large divides some)
     own (inr divides) (inr o) = inr (dvd_trans stride o divides)
+
     each : (most < q) ⊎ (p ∣ q) → (most < p) ⊎ ((k : ℕ) (e : Span) → k < i → Carries at p (slice_index_or xs k e)) → (most < q) ⊎ Carries at q (slice_index_or xs i d)
         → (most < q) ⊎ ((k : ℕ) (e : Span) → k < i + 1 → Carries at q (slice_index_or xs k e))
     each (inl large) o new = inl large
@@ -261,6 +268,7 @@ enough_of xs at edge stride most p h small = inr (p, h.some, own h.own, each h.e
     own : (most < p) ⊎ (stride ∣ p) → stride ∣ p
     own (inl large) = absurd (omega (arith, large, small))
     own (inr o) = o
+
     each : (most < p) ⊎ All (Carries at p) xs → All (Carries at p) xs
     each (inl large) = absurd (omega (arith, large, small))
     each (inr all) = all

@@ -108,7 +108,10 @@ all_through d e (n ∷ ns) h k = (dvd_through d e n h k.0, all_through d e ns h 
 
 pub hull_first : (x : Span) (g : ℕ) → g ∣ own_stride x → ((d : ℕ) → d ∣ own_stride x → d ∣ g) → IsHullSoFar (x ∷ []) x.low x.high g
 hull_first x g h k = record {
-  below = (omega (arith, ints), tt); least = inl refl; above = (omega (arith, ints), tt); greatest = inl refl;
+  below = (omega (arith, ints), tt);
+  least = inl refl;
+  above = (omega (arith, ints), tt);
+  greatest = inl refl;
   gcd = ((dvd_nothing g x.low x.low refl, (h, tt)), (λ d all. k d all.1.0));
 }
 
@@ -118,24 +121,29 @@ pub hull_next : (xs : List Span) (x : Span) (a b a' b' : ℤ) (g h : ℕ) → Is
 hull_next xs x a b a' b' g h so p q pq r s rs is = record {
   below = below_end a' xs x (below_less a a' xs p so.below) q;
   least = elim pq [
-      inl e ↦ subst (λ z. Has (λ y. y.low ≡ z) (xs ++ x ∷ [])) (sym e) (has_front (λ y. y.low ≡ a) xs x so.least)
-    | inr e ↦ has_end (λ y. y.low ≡ a') xs x (sym e) ];
+    | inl e ↦ subst (λ z. Has (λ y. y.low ≡ z) (xs ++ x ∷ [])) (sym e) (has_front (λ y. y.low ≡ a) xs x so.least)
+    | inr e ↦ has_end (λ y. y.low ≡ a') xs x (sym e)
+  ];
   above = above_end b' xs x (above_more b b' xs r so.above) s;
   greatest = elim rs [
-      inl e ↦ subst (λ z. Has (λ y. y.high ≡ z) (xs ++ x ∷ [])) (sym e) (has_front (λ y. y.high ≡ b) xs x so.greatest)
-    | inr e ↦ has_end (λ y. y.high ≡ b') xs x (sym e) ];
+    | inl e ↦ subst (λ z. Has (λ y. y.high ≡ z) (xs ++ x ∷ [])) (sym e) (has_front (λ y. y.high ≡ b) xs x so.greatest)
+    | inr e ↦ has_end (λ y. y.high ≡ b') xs x (sym e)
+  ];
   gcd = (divides, greatest_one);
 }
   where
     -- the new low end is the old one or that of the box
     ahead : (d : ℕ) → d ∣ unsigned_abs (x.low -ℤ a) → d ∣ unsigned_abs (a -ℤ a')
     ahead d k = elim pq [
-        inl e ↦ dvd_nothing d a a' (sym e)
-      | inr e ↦ dvd_at d (a -ℤ x.low) (a -ℤ a') (omega (arith, ints, e)) (dvd_turned d x.low a k) ]
+      | inl e ↦ dvd_nothing d a a' (sym e)
+      | inr e ↦ dvd_at d (a -ℤ x.low) (a -ℤ a') (omega (arith, ints, e)) (dvd_turned d x.low a k)
+    ]
+
     divides : DividesAll h (gaps_of a' (xs ++ x ∷ []))
     divides =
         let far = ahead h is.second in
         gaps_end h a' xs x (gaps_moved h a a' xs far (all_through h g (gaps_of a xs) is.first so.gcd.0)) (dvd_ways h x.low a a' is.second far) is.third
+
     greatest_one : (d : ℕ) → DividesAll d (gaps_of a' (xs ++ x ∷ [])) → d ∣ h
     greatest_one d k =
         let parts = gaps_front d a' xs x k in
@@ -158,6 +166,7 @@ hull_end xs a b g so = record {
     one : (t : Bool) → int_eq a b ≡ t → a ≡ b → (if t then 1 else g) ≡ 1
     one true is e = refl
     one false is e = absurd (cc ((Decides-int_eq a b).1 e, is))
+
     many : (t : Bool) → int_eq a b ≡ t → a ≢ b → IsGcdOf (gaps_of a xs) (if t then 1 else g)
     many true is n = absurd (n ((Decides-int_eq a b).0 is))
     many false is n = gcd_of (gaps_of a xs) g so.gcd

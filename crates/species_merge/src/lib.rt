@@ -4,5 +4,5 @@
 mod hulls;
 mod stretches;
 
-pub use stretches::covers;
 pub use hulls::hull;
+pub use stretches::covers;

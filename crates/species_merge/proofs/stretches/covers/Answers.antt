@@ -15,9 +15,10 @@ returns-then-not-stretch c =
     let fits_high : FitsSigned w128 c.args.hull.high = search rules in
     let fits_edge : FitsSigned w128 c.edge_of-edge.result = search rules in
     let cover = simp to_z-of_z at c.stretch.ensures in
-    let within = simp to_z-of_z at c.edge_of-edge.ensures.within in
-    ((λ t. not_true t),
-     (λ h. absurd (clash c.stretch.result (cover.1 (part_covered c.args.spans.now c.args.hull.low c.args.hull.high c.args.hull.stride at c.edge_of-edge.result c.loop-at.invariant.from within c.loop-at.invariant.whole h)) c.if-not-stretch.true)))
+    let within = simp to_z-of_z at c.edge_of-edge.ensures.within in (
+      (λ t. not_true t),
+      (λ h. absurd (clash c.stretch.result (cover.1 (part_covered c.args.spans.now c.args.hull.low c.args.hull.high c.args.hull.stride at c.edge_of-edge.result c.loop-at.invariant.from within c.loop-at.invariant.whole h)) c.if-not-stretch.true)),
+    )
 
 pub loop-at-preserved : goal.loop-at-preserved
 loop-at-preserved c =

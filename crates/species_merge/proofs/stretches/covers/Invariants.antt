@@ -8,7 +8,7 @@ abbrev pub invariant-loop-at : goal.invariant-loop-at
 invariant-loop-at l = record {
   covered : CoveredTo l.spans l.hull.low l.hull.stride l.at;
   whole : l.hull.stride ∣ unsigned_abs (l.at -ℤ l.hull.low);
-  from : l.hull.low ≤ℤ l.at
+  from : l.hull.low ≤ℤ l.at;
 }
 
 abbrev pub decreases-loop-at : goal.decreases-loop-at

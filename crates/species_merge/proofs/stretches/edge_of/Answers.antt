@@ -15,4 +15,4 @@ loop-span-preserved c =
     let ahead = simp to_z-of_z at c.edge_with-edge.ensures.ahead in
     let settled = simp to_z-of_z at c.edge_with-edge.ensures.settled in
     simp to_z-of_z (edge_next c.args.spans.now c.loop-span.span-index nothing c.args.at c.args.last (to_z w128 c.loop-span.edge-bits) c.edge_with-edge.result
-      c.loop-span-test.true before ahead c.edge_with-edge.ensures.within settled)
+    c.loop-span-test.true before ahead c.edge_with-edge.ensures.within settled)

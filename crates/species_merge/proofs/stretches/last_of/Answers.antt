@@ -17,6 +17,6 @@ returns-else-period-most-clause-enough c =
     let step : to_z w128 period ≡ pos period = to_z_pos w128 period (omega (arith, small)) in
     let fits_last : FitsSigned w128 (pos period -ℤ pos 1) = fits_signed_from_abs w128 (pos period -ℤ pos 1) (omega (arith, abs_difference (pos period) (pos 1), small)) in
     let fits_sum : FitsSigned w128 (c.args.at +ℤ (pos period -ℤ pos 1)) =
-        fits_signed_from_abs w128 (c.args.at +ℤ (pos period -ℤ pos 1)) (omega (arith, abs_sum c.args.at (pos period -ℤ pos 1), abs_difference (pos period) (pos 1), small, c.requires.small_at)) in
+    fits_signed_from_abs w128 (c.args.at +ℤ (pos period -ℤ pos 1)) (omega (arith, abs_sum c.args.at (pos period -ℤ pos 1), abs_difference (pos period) (pos 1), small, c.requires.small_at)) in
     let is_period = simp to_z-of_z at c.period_of-period.ensures in
     simp (step, to_z-of_z) (enough_of c.args.spans.now c.args.at c.args.edge c.args.stride c.unsigned_abs-most.result period is_period c.if-period-most.false)

@@ -14,7 +14,7 @@ loop-span-preserved c =
     let before = simp to_z-of_z at c.loop-span.invariant in
     let own = simp to_z-of_z at c.period_with-period.ensures.own in
     simp to_z-of_z (period_next c.args.spans.now c.loop-span.span-index nothing c.args.at c.args.stride c.args.most c.loop-span.period c.period_with-period.result
-      c.loop-span-test.true before c.period_with-period.ensures.some c.period_with-period.ensures.kept own)
+    c.loop-span-test.true before c.period_with-period.ensures.some c.period_with-period.ensures.kept own)
 
 pub returns : goal.returns
 returns c =

@@ -21,6 +21,7 @@ returns c =
     let fits_last : FitsSigned w128 c.last_of.result = search rules in
     let is_enough = simp to_z-of_z at c.last_of.ensures.enough in
     let within = simp to_z-of_z at c.last_of.ensures.within in
-    let walked = simp to_z-of_z at c.walk.ensures in
-    ((λ t. enough c.args.spans.now c.args.at c.args.edge c.args.stride c.last_of.result c.requires.ahead c.requires.settled is_enough (walked.0 t)),
-     (λ h. walked.1 (part_covered c.args.spans.now c.args.at c.args.edge c.args.stride c.args.at c.last_of.result (same_low c.args.at) within (dvd_nothing c.args.stride c.args.at c.args.at refl) h)))
+    let walked = simp to_z-of_z at c.walk.ensures in (
+      (λ t. enough c.args.spans.now c.args.at c.args.edge c.args.stride c.last_of.result c.requires.ahead c.requires.settled is_enough (walked.0 t)),
+      (λ h. walked.1 (part_covered c.args.spans.now c.args.at c.args.edge c.args.stride c.args.at c.last_of.result (same_low c.args.at) within (dvd_nothing c.args.stride c.args.at c.args.at refl) h)),
+    )

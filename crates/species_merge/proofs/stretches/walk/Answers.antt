@@ -20,7 +20,7 @@ loop-at-preserved c =
     let whole = simp to_z-of_z at c.loop-at.invariant.whole in
     let small : unsigned_abs (to_z w128 c.loop-at.at-bits) ≤ 2 ^ 71 = abs_between c.args.first c.args.last (to_z w128 c.loop-at.at-bits) (2 ^ 71) from below c.requires.small_first c.requires.small_last in
     let sum : FitsSigned w128 (to_z w128 c.loop-at.at-bits +ℤ pos c.args.stride) =
-        fits_signed_from_abs w128 (to_z w128 c.loop-at.at-bits +ℤ pos c.args.stride) (omega (arith, abs_sum (to_z w128 c.loop-at.at-bits) (pos c.args.stride), small, c.requires.small_stride)) in
+    fits_signed_from_abs w128 (to_z w128 c.loop-at.at-bits +ℤ pos c.args.stride) (omega (arith, abs_sum (to_z w128 c.loop-at.at-bits) (pos c.args.stride), small, c.requires.small_stride)) in
     let has = c.some_holds.ensures.0 c.if-not-some_holds.false in
     simp (to_z-of_z, step) (record {
       covered = covered_step c.args.spans.now c.args.first c.args.stride (to_z w128 c.loop-at.at-bits) covered whole has;

@@ -8,7 +8,7 @@ abbrev pub invariant-loop-at : goal.invariant-loop-at
 invariant-loop-at l = record {
   covered : CoveredTo l.spans l.first l.stride l.at;
   whole : l.stride ∣ unsigned_abs (l.at -ℤ l.first);
-  from : l.first ≤ℤ l.at
+  from : l.first ≤ℤ l.at;
 }
 
 abbrev pub decreases-loop-at : goal.decreases-loop-at
