@@ -99,7 +99,7 @@ unfolding span_from
 a_span b =
     let more = skip (sign 58) (both int (maybe (sign 58) (word number))) in
     a_mapped (span_of b) (both (word number) more) (a_both (word number) more (a_word number)
-      (t_of more (a_skip (sign 58) (both int (maybe (sign 58) (word number))) (t_of (both int (maybe (sign 58) (word number))) (a_both int (maybe (sign 58) (word number)) a_int (t_maybe (sign 58) (word number) (t_of (word number) (a_word number))))))))
+    (t_of more (a_skip (sign 58) (both int (maybe (sign 58) (word number))) (t_of (both int (maybe (sign 58) (word number))) (a_both int (maybe (sign 58) (word number)) a_int (t_maybe (sign 58) (word number) (t_of (word number) (a_word number))))))))
 
 a_offset : Advances offset
 unfolding offset
@@ -130,7 +130,7 @@ a_arc =
     let bar_on = a_skip (sign 124) (both (word arc_words) (both offsets tail)) (t_of (both (word arc_words) (both offsets tail)) word_on) in
     let ranges_on = a_both ranges (skip (sign 124) (both (word arc_words) (both offsets tail))) a_ranges (t_of (skip (sign 124) (both (word arc_words) (both offsets tail))) bar_on) in
     a_mapped arc_of (both (word name) (both ranges (skip (sign 124) (both (word arc_words) (both offsets tail)))))
-      (a_both (word name) (both ranges (skip (sign 124) (both (word arc_words) (both offsets tail)))) (a_word name) (t_of (both ranges (skip (sign 124) (both (word arc_words) (both offsets tail)))) ranges_on))
+    (a_both (word name) (both ranges (skip (sign 124) (both (word arc_words) (both offsets tail)))) (a_word name) (t_of (both ranges (skip (sign 124) (both (word arc_words) (both offsets tail)))) ranges_on))
 
 -- ---- behind a separator
 

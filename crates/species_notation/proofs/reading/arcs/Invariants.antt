@@ -1,6 +1,6 @@
 use Rattle.std.proofs.Common.{◌≡◌, ◌<◌, length}
 use Rattle.species_grammar.specs.Reader.{prepended}
-use Rattle.species_notation.specs.Readers.{arcs, more_of, arc, sign}
+use Rattle.species_notation.specs.Readers.{arcs, more_of, arc}
 use Rattle.species_notation.proofs.reading.arcs.Given as goal
 
 -- reading goes on behind what was read

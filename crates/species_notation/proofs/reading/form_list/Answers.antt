@@ -1,7 +1,7 @@
 use Rattle.std.proofs.Common.{rules, arith}
 use Rattle.species_grammar.specs.Reader.{is_of, skip}
 use Rattle.species_grammar.proofs.Free.{repeated_done}
-use Rattle.species_notation.specs.Readers.{listed, more_of, form, sign}
+use Rattle.species_notation.specs.Readers.{more_of, form, sign}
 use Rattle.species_notation.proofs.Turns.{list_begins, repeated_turn}
 use Rattle.species_notation.proofs.Totals.{a_next_form}
 use Rattle.species_notation.proofs.reading.form_list.Goals as goal

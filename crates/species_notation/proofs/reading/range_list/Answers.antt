@@ -1,7 +1,7 @@
 use Rattle.std.proofs.Common.{rules, arith}
 use Rattle.species_grammar.specs.Reader.{is_of, skip}
 use Rattle.species_grammar.proofs.Free.{repeated_done}
-use Rattle.species_notation.specs.Readers.{listed, more_of, range, sign}
+use Rattle.species_notation.specs.Readers.{more_of, range, sign}
 use Rattle.species_notation.proofs.Turns.{list_begins, repeated_turn}
 use Rattle.species_notation.proofs.Totals.{a_next_range}
 use Rattle.species_notation.proofs.reading.range_list.Goals as goal

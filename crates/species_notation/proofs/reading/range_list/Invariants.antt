@@ -1,6 +1,6 @@
 use Rattle.std.proofs.Common.{◌≡◌, ◌<◌, length}
 use Rattle.species_grammar.specs.Reader.{prepended}
-use Rattle.species_notation.specs.Readers.{listed, more_of, range, sign}
+use Rattle.species_notation.specs.Readers.{listed, more_of, range}
 use Rattle.species_notation.proofs.reading.range_list.Given as goal
 
 -- reading goes on behind what was read
