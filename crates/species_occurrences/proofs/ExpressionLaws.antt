@@ -1,5 +1,5 @@
 -- All accesses of an expression are made by its references, and what it gives is the value of its form.
-use Rattle.std.proofs.Common.{◌≡◌, refl, ap, sym, ◌∙◌, subst, arith, ℕ, suc, ◌+◌, Bool, if◌then◌else◌, List, [], ◌∷◌, ◌++◌, map, ℤ, Option, Some, None, Ok, Err, inl}
+use Rattle.std.proofs.Common.{◌≡◌, refl, ap, sym, subst, arith, ℕ, suc, ◌+◌, if◌then◌else◌, List, [], ◌∷◌, ◌++◌, map, ℤ, Option, Some, None, Ok, Err, inl}
 use Rattle.std.proofs.lemmas.List.{append-nil}
 use Rattle.species_ast.specs.declared.tree.Kind.{Kind}
 use Rattle.species_ast.specs.declared.tree.Value.{Value}
@@ -8,7 +8,7 @@ use Rattle.species_ast.specs.declared.tree.Binary.{Binary}
 use Rattle.species_ast.specs.declared.tree.Expr.{Expr}
 use Rattle.species_ast.specs.declared.tree.Expr.TheOpen.{Expr-F}
 use Rattle.species_ast.specs.Operators.{Answer, is_true, binary_of, unary_of}
-use Rattle.species_ast.specs.Accesses.{Access, access, Site, Direction, Reads, Tree}
+use Rattle.species_ast.specs.Accesses.{Access, access, Site, Direction, Reads}
 use Rattle.species_ast.specs.Evaluation.{Frame, Context, Spot, Sense, sense, sense_at, local_of, known, answered, tested, indices_in, sizes_of, site_at, element_at, values_of, target_of, elements_in}
 use Rattle.species_ast.specs.Scope.Forms.{Form, form_of, form_step}
 use Rattle.species_ast.specs.Scope.References.{Where, reference, perhaps, Elements, no_elements, then_elements, on_condition, all_elements, element_with, elements_at, elements_of}

@@ -1,12 +1,11 @@
 -- The header of a loop gives values that the loop's range has, and accesses nothing.
-use Rattle.std.proofs.Common.{◌≡◌, refl, sym, ◌∙◌, subst, ap, ℕ, true, List, [], ◌∷◌, ◌++◌, ℤ, Option, Some, None}
+use Rattle.std.proofs.Common.{◌≡◌, refl, sym, subst, ap, ℕ, true, List, [], ◌∷◌, ◌++◌, ℤ, Option, Some, None}
 use Rattle.std.specs.Prelude.{is_some}
 use Rattle.species_ast.specs.declared.tree.Expr.{Expr}
-use Rattle.species_ast.specs.declared.tree.Value.{Value}
 use Rattle.species_ast.specs.declared.tree.Kind.TheVariants as kind
 use Rattle.species_ast.specs.declared.tree.Stmt.TheOpen.{Loop-F}
 use Rattle.species_ast.specs.Operators.{number_of, reduced}
-use Rattle.species_ast.specs.Accesses.{Access, Tree, then_do}
+use Rattle.species_ast.specs.Accesses.{Access, Tree}
 use Rattle.species_ast.specs.Evaluation.{Frame, Context, Spot, sense, sizes_of}
 use Rattle.species_ast.specs.Run.{inside, outside, turns, looping, iterator_values}
 use Rattle.species_ast.specs.Scope.Forms.{Form, form_of, form_value}

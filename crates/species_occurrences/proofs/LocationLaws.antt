@@ -1,12 +1,12 @@
 -- Each access that a unit makes inside one of its loops is made by a reference of the loop.
-use Rattle.std.proofs.Common.{◌≡◌, refl, ap, sym, ◌∙◌, subst, arith, ℕ, zero, suc, ◌+◌, ◌<◌, ◌≤◌, Bool, true, ◌&&◌, List, [], ◌∷◌, ◌++◌, map, length, ℤ, ◌⊎◌, inl, inr}
+use Rattle.std.proofs.Common.{◌≡◌, refl, ap, sym, ◌∙◌, subst, arith, ℕ, suc, ◌+◌, ◌≤◌, Bool, true, ◌&&◌, List, [], ◌∷◌, ◌++◌, map, length, ℤ, ◌⊎◌, inl, inr}
 use Rattle.std.specs.Prelude.{is_some}
 use Rattle.std.proofs.lemmas.Bool.{and_parts}
 use Rattle.std.proofs.lemmas.List.{length-map}
 use Rattle.species_ast.specs.declared.tree.Expr.{Expr}
 use Rattle.species_ast.specs.declared.tree.Loop.{Loop, roll-Loop}
 use Rattle.species_ast.specs.declared.tree.Stmt.{Stmt}
-use Rattle.species_ast.specs.declared.tree.Stmt.TheOpen.{Stmt-F, Loop-F}
+use Rattle.species_ast.specs.declared.tree.Stmt.TheOpen.{Loop-F}
 use Rattle.species_ast.specs.declared.tree.Stmt.TheVariants as stmt
 use Rattle.species_ast.specs.declared.tree.Unit.{Unit as Program}
 use Rattle.species_ast.specs.Marks.{all_true}
@@ -15,7 +15,7 @@ use Rattle.species_ast.specs.Accesses.{Access, Tree}
 use Rattle.species_ast.specs.Evaluation.{Frame, Context, sense, sizes_of}
 use Rattle.species_ast.specs.Run.{Step, step, does_list, does_scope, declared_in, spot, loop_of, source_context, first_frame, program_of}
 use Rattle.species_ast.specs.Scope.Forms.{form_of}
-use Rattle.species_ast.specs.Scope.Hulls.{Range, range_of}
+use Rattle.species_ast.specs.Scope.Hulls.{range_of}
 use Rattle.species_ast.specs.Scope.Limits.{goes}
 use Rattle.species_ast.specs.Scope.Loops.{Standing, PlacedLoop, standing_in, numbered, Placing, list_loops, loops_in, outside_loops, placed_loops}
 use Rattle.species_ast.specs.Scope.References.{Reference, Adding, elements_of, references_of}
@@ -27,9 +27,9 @@ use Rattle.species_runs.specs.Sites.{IsMadeAt}
 use Rattle.species_runs.proofs.EveryLaws.{every-then_do, every_weaker, every_one, every_both}
 use Rattle.species_runs.proofs.SiteLaws as site
 use Rattle.species_occurrences.specs.Iterators.{AreInts, AreTaken}
-use Rattle.species_occurrences.specs.Made.{IsMadeAmong, IsMade, Begins, IsMadeInside, IsMadeInEach}
+use Rattle.species_occurrences.specs.Made.{IsMadeAmong, IsMade, Begins, IsMadeInEach}
 use Rattle.species_occurrences.specs.Regular.{regular_at, regular_loop, is_regular}
-use Rattle.species_occurrences.proofs.HeaderLaws.{StandsAt, HasIters, looping_every}
+use Rattle.species_occurrences.proofs.HeaderLaws.{HasIters, looping_every}
 use Rattle.species_occurrences.proofs.MadeLaws.{every_all}
 use Rattle.species_occurrences.proofs.NestLaws.{unconditional, nest_made}
 use Rattle.species_occurrences.proofs.PositionLaws.{each_weaker, IsAmongThose, one_of_those, those_wider, apart, not_longer, IsStatedAt, stated, loops_in-Assign, loops_in-AddTo, loops_in-Declare, loops_in-SetLocal, loops_in-If, loops_in-For, loops_in-Block, StandsIn, StandsAmong, nested, nested_list}

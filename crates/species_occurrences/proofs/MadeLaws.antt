@@ -1,5 +1,5 @@
 -- Laws of what is made by a list of references.
-use Rattle.std.proofs.Common.{◌≡◌, ◌∙◌, ℕ, List, [], ◌∷◌, ◌++◌, ℤ, inl, inr}
+use Rattle.std.proofs.Common.{◌∙◌, ℕ, List, [], ◌∷◌, ◌++◌, ℤ, inl, inr}
 use Rattle.std.proofs.lemmas.List.{append_assoc}
 use Rattle.species_ast.specs.Accesses.{Access, Tree, Ret, Stop, Read, Write, Add, then_do}
 use Rattle.species_ast.specs.Scope.References.{Reference}

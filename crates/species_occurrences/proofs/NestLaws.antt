@@ -1,5 +1,5 @@
 -- All accesses of a loop, of a turn of it and of a unit are made by its references.
-use Rattle.std.proofs.Common.{◌≡◌, refl, sym, ◌∙◌, subst, ap, arith, ℕ, suc, ◌-◌, Bool, true, false, ◌||◌, if◌then◌else◌, List, [], ◌∷◌, ◌++◌, map, ℤ}
+use Rattle.std.proofs.Common.{◌≡◌, refl, ◌∙◌, subst, ap, arith, ℕ, suc, ◌-◌, Bool, true, false, if◌then◌else◌, List, [], ◌∷◌, ◌++◌, map, ℤ}
 use Rattle.species_ast.specs.declared.tree.Loop.{Loop, roll-Loop}
 use Rattle.species_ast.specs.declared.tree.Stmt.{Stmt}
 use Rattle.species_ast.specs.declared.tree.Stmt.TheOpen.{Loop-F}
@@ -7,7 +7,7 @@ use Rattle.species_ast.specs.declared.tree.Stmt.TheVariants as stmt
 use Rattle.species_ast.specs.declared.tree.Unit.{Unit as Program}
 use Rattle.species_ast.specs.Marks.{all_true}
 use Rattle.species_ast.specs.Evaluation.{Frame, Context, sizes_of}
-use Rattle.species_ast.specs.Run.{Takes, step, loop_of, source_context, first_frame, program_of, iteration_in, iteration}
+use Rattle.species_ast.specs.Run.{Takes, loop_of, source_context, first_frame, program_of, iteration_in, iteration}
 use Rattle.species_ast.specs.Scope.Hulls.{Range, has_empty, range_of}
 use Rattle.species_ast.specs.Scope.References.{Where, Reference, Adding, in_turn, list_references, references_at, references_inside, stmt_references, references_of}
 use Rattle.species_ast.proofs.Folds.{fold_stmt-For, fold_loop}

@@ -1,11 +1,10 @@
 -- The references of a nest are those of its body, and all accesses of an iteration are made by them.
-use Rattle.std.proofs.Common.{◌≡◌, refl, ap, sym, ◌∙◌, subst, arith, ℕ, zero, suc, ◌-◌, Bool, true, false, ◌&&◌, List, [], ◌∷◌, ◌++◌, map, length, ℤ, Option, Some, None}
+use Rattle.std.proofs.Common.{◌≡◌, refl, ap, sym, ◌∙◌, subst, arith, ℕ, zero, suc, ◌-◌, Bool, true, false, List, [], ◌∷◌, ◌++◌, map, length, ℤ, Option, Some, None}
 use Rattle.std.specs.List.{Contains}
 use Rattle.std.proofs.lemmas.Bool.{and_parts}
 use Rattle.std.proofs.lemmas.List.{append-nil}
 use Rattle.species_ast.specs.declared.tree.Loop.{Loop, out-Loop, roll-Loop}
 use Rattle.species_ast.specs.declared.tree.Stmt.{Stmt}
-use Rattle.species_ast.specs.declared.tree.Stmt.TheOpen.{Loop-F}
 use Rattle.species_ast.specs.declared.tree.Stmt.TheVariants as stmt
 use Rattle.species_ast.specs.declared.tree.Unit.{Unit as Program}
 use Rattle.species_ast.specs.Marks.{all_true}
@@ -13,7 +12,7 @@ use Rattle.species_ast.specs.Accesses.{Joins, Cells, Ended, run}
 use Rattle.species_ast.specs.Evaluation.{Frame, Context, sizes_of}
 use Rattle.species_ast.specs.Run.{Takes, iteration, loop_of, source_context}
 use Rattle.species_ast.specs.Scope.Hulls.{Range, range_of}
-use Rattle.species_ast.specs.Scope.References.{Where, Reference, Adding, in_turn, list_references, references_at, references_inside, stmt_references, loop_references, references_of}
+use Rattle.species_ast.specs.Scope.References.{Where, Adding, list_references, references_at, references_inside, stmt_references, loop_references, references_of}
 use Rattle.species_ast.specs.Scope.WellMade.{IsWellMade}
 use Rattle.species_ast.proofs.Folds.{fold_stmt-For, fold_stmt-Block, fold_loop-out}
 use Rattle.species_ast.proofs.Induction.{Each, each_all, stmt_ind}

@@ -1,5 +1,5 @@
 -- Where references and loops stand.
-use Rattle.std.proofs.Common.{◌≡◌, refl, ap, sym, ◌∙◌, subst, arith, ℕ, zero, suc, ◌+◌, ◌<◌, ◌≤◌, List, [], ◌∷◌, ◌++◌, map, length, Bool, Option, ◌⊎◌, inl, inr}
+use Rattle.std.proofs.Common.{◌≡◌, refl, ap, sym, ◌∙◌, subst, arith, ℕ, suc, ◌+◌, ◌<◌, ◌≤◌, List, [], ◌∷◌, ◌++◌, map, length, Bool, Option, ◌⊎◌, inl, inr}
 use Rattle.std.proofs.lemmas.List.{length-map, append_assoc, append-nil}
 use Rattle.species_ast.specs.declared.tree.Expr.{Expr}
 use Rattle.species_ast.specs.declared.tree.Loop.{Loop, roll-Loop}
@@ -7,7 +7,7 @@ use Rattle.species_ast.specs.declared.tree.Stmt.{Stmt}
 use Rattle.species_ast.specs.declared.tree.Stmt.TheOpen.{Loop-F}
 use Rattle.species_ast.specs.declared.tree.Stmt.TheVariants as stmt
 use Rattle.species_ast.specs.Scope.Loops.{Standing, PlacedLoop, standing_in, numbered, Placing, list_loops, loops_at, loops_inside, loops_in}
-use Rattle.species_ast.specs.Scope.References.{Where, Reference, perhaps, Elements, no_elements, then_elements, on_condition, all_elements, element_with, elements_at, elements_of}
+use Rattle.species_ast.specs.Scope.References.{Where, Reference, perhaps, Elements, no_elements, then_elements, on_condition, all_elements, elements_at, elements_of}
 use Rattle.species_ast.proofs.Induction.{Each, each_all, expr_ind, stmt_ind}
 use Rattle.species_ast.proofs.Paras.{beside, seconds, para_expr-Literal, para_expr-Iter, para_expr-Local, para_expr-Unary, para_expr-Binary, para_expr-And, para_expr-Or, para_expr-Cond, para_expr-Cast, para_stmt-Assign, para_stmt-AddTo, para_stmt-Declare, para_stmt-SetLocal, para_stmt-If, para_stmt-For, para_stmt-Block, para_loop}
 use Rattle.species_ast.proofs.ReferenceLaws.{elements_of-Elem}

@@ -1,5 +1,5 @@
 -- The start and the step of a loop's range, and the numbers of its turns.
-use Rattle.std.proofs.Common.{◌≡◌, refl, ap, sym, ◌∙◌, subst, arith, ℕ, zero, suc, ◌+◌, ◌*◌, ◌/◌, ◌<◌, ◌≤◌, Bool, true, false, ◌&&◌, ◌||◌, if◌then◌else◌, List, [], ◌∷◌, ℤ, pos, negsuc, neg_ℤ, ◌+ℤ◌, ◌-ℤ◌, ◌*ℤ◌, ◌<ℤ◌, ◌≤ℤ◌, Option, Some, None}
+use Rattle.std.proofs.Common.{◌≡◌, refl, sym, ◌∙◌, subst, arith, ℕ, zero, suc, ◌*◌, ◌/◌, ◌<◌, ◌≤◌, Bool, true, false, ◌&&◌, if◌then◌else◌, List, ℤ, pos, negsuc, neg_ℤ, ◌+ℤ◌, ◌-ℤ◌, ◌*ℤ◌, ◌<ℤ◌, ◌≤ℤ◌, Option, Some}
 use Rattle.std.specs.Prelude.{int_lt, int_le, unsigned_abs}
 use Rattle.std.proofs.lemmas.Int.{ints}
 use Rattle.std.proofs.Math.Nat.{le-div_iff_mul-le, mul-le-mul_right}
@@ -10,7 +10,7 @@ use Rattle.species_ast.specs.Scope.Forms.{Form, is_constant, form_value}
 use Rattle.species_ast.specs.Scope.Hulls.{Range, last_form, last_value, start_constant, fixed_range, wide_range, no_range, range_between, has_empty}
 use Rattle.species_ast.specs.Scope.Limits.{goes}
 use Rattle.species_ast.proofs.Induction.{Each}
-use Rattle.species_ast.proofs.IteratorLaws.{Passes, in_turn, turn_passes}
+use Rattle.species_ast.proofs.IteratorLaws.{in_turn, turn_passes}
 use Rattle.species_occurrences.specs.Iterators.{IsInt}
 
 pub less_of : (x y : ℤ) → int_lt x y ≡ true → x <ℤ y

@@ -1,15 +1,13 @@
 -- Where a run comes to a loop, the iterators of the loops around it are values that these take; so it is in each iteration.
-use Rattle.std.proofs.Common.{◌≡◌, refl, ap, sym, ◌∙◌, subst, arith, ℕ, zero, suc, ◌<◌, Bool, true, ◌&&◌, List, [], ◌∷◌, ◌++◌, map, length, ℤ}
+use Rattle.std.proofs.Common.{◌≡◌, refl, sym, ◌∙◌, subst, arith, ℕ, zero, suc, true, List, [], ◌∷◌, ◌++◌, map, length, ℤ}
 use Rattle.std.specs.List.{Contains}
 use Rattle.std.proofs.lemmas.Bool.{and_parts}
-use Rattle.species_ast.specs.declared.tree.Expr.{Expr}
-use Rattle.species_ast.specs.declared.tree.Loop.{Loop, out-Loop, roll-Loop}
+use Rattle.species_ast.specs.declared.tree.Loop.{Loop, out-Loop}
 use Rattle.species_ast.specs.declared.tree.Stmt.{Stmt}
-use Rattle.species_ast.specs.declared.tree.Stmt.TheOpen.{Loop-F}
 use Rattle.species_ast.specs.declared.tree.Stmt.TheVariants as stmt
 use Rattle.species_ast.specs.declared.tree.Unit.{Unit as Program}
 use Rattle.species_ast.specs.Marks.{all_true}
-use Rattle.species_ast.specs.Accesses.{Joins, Cells, Access, Ended, run}
+use Rattle.species_ast.specs.Accesses.{Joins, Cells}
 use Rattle.species_ast.specs.Evaluation.{Frame, Context}
 use Rattle.species_ast.specs.Run.{spot, source_context}
 use Rattle.species_ast.specs.Scope.Hulls.{Range, range_of}
@@ -21,7 +19,7 @@ use Rattle.species_runs.specs.Every.{Anything}
 use Rattle.species_runs.proofs.EveryLaws.{every_ended}
 use Rattle.species_nests.specs.Arrivals.{header, Running, Comes, here, in_turn, in_body, in_otherwise, in_block, ComesIn, first, later, ComesTo}
 use Rattle.species_nests.proofs.IteratorArrivals.{GoesInside, comes_in_iters}
-use Rattle.species_occurrences.specs.Iterators.{IsInt, AreInts, MayTake, AreTaken, AreTheirs, ranges_of}
+use Rattle.species_occurrences.specs.Iterators.{IsInt, MayTake, AreTaken, AreTheirs, ranges_of}
 use Rattle.species_occurrences.specs.Regular.{as_marked, regular_at, regular_loop, is_regular}
 use Rattle.species_occurrences.proofs.HeaderLaws.{HasBounds, AllTaken, header_taken}
 use Rattle.species_occurrences.proofs.NestLaws.{unconditional}

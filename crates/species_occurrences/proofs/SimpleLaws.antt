@@ -1,10 +1,10 @@
 -- All accesses of a statement without statements inside are made by its references.
-use Rattle.std.proofs.Common.{◌≡◌, refl, sym, ◌∙◌, subst, ℕ, suc, Bool, true, false, if◌then◌else◌, List, [], ◌∷◌, ◌++◌, map, ℤ, Option, Some, None, Ok, Err}
+use Rattle.std.proofs.Common.{sym, subst, ℕ, suc, Bool, true, false, List, [], ◌∷◌, ◌++◌, map, ℤ, Option, Some, None, Ok, Err}
 use Rattle.species_ast.specs.declared.tree.Binary.TheVariants as binary
 use Rattle.species_ast.specs.declared.tree.Expr.{Expr}
 use Rattle.species_ast.specs.declared.tree.Kind.{Kind}
 use Rattle.species_ast.specs.declared.tree.Value.{Value}
-use Rattle.species_ast.specs.Operators.{Answer, converted, is_true, binary_of}
+use Rattle.species_ast.specs.Operators.{Answer, is_true, binary_of}
 use Rattle.species_ast.specs.Accesses.{Access, access, Site, Direction, Reads, Writes, Adds, Tree}
 use Rattle.species_ast.specs.Evaluation.{Frame, Context, Spot, sense, array_kind, local_kind, with_local, answered, sizes_of, site_at, element_at, target_of, elements_in}
 use Rattle.species_ast.specs.Run.{assignment, addition, adding, initial, declaring, setting, branching}

@@ -1,18 +1,16 @@
 -- All accesses of a statement are made by its references.
-use Rattle.std.proofs.Common.{◌≡◌, refl, ap, sym, ◌∙◌, subst, ℕ, zero, suc, ◌-◌, Bool, true, false, ◌&&◌, not, if◌then◌else◌, List, [], ◌∷◌, ◌++◌, map, length, ℤ}
+use Rattle.std.proofs.Common.{◌≡◌, refl, ap, sym, ◌∙◌, subst, ℕ, zero, suc, ◌-◌, Bool, true, false, ◌&&◌, if◌then◌else◌, List, [], ◌∷◌, ◌++◌, map, length, ℤ}
 use Rattle.std.specs.Prelude.{is_some}
 use Rattle.std.proofs.lemmas.Bool.{and_parts}
 use Rattle.std.proofs.lemmas.List.{length-map}
-use Rattle.species_ast.specs.declared.tree.Expr.{Expr}
 use Rattle.species_ast.specs.declared.tree.Loop.{Loop, roll-Loop}
 use Rattle.species_ast.specs.declared.tree.Stmt.{Stmt}
-use Rattle.species_ast.specs.declared.tree.Stmt.TheOpen.{Stmt-F, Loop-F}
-use Rattle.species_ast.specs.declared.tree.Stmt.TheVariants as stmt
+use Rattle.species_ast.specs.declared.tree.Stmt.TheOpen.{Loop-F}
 use Rattle.species_ast.specs.Marks.{all_true}
-use Rattle.species_ast.specs.Evaluation.{Frame, Context, sense, sizes_of, with_local}
-use Rattle.species_ast.specs.Run.{Step, step, does_list, does_scope, cleared, declared_in, looping, branching, adding, spot, loop_of}
+use Rattle.species_ast.specs.Evaluation.{Frame, Context, sense, sizes_of}
+use Rattle.species_ast.specs.Run.{Step, step, does_list, does_scope, cleared, declared_in, looping, branching, adding, spot}
 use Rattle.species_ast.specs.Scope.Forms.{form_of}
-use Rattle.species_ast.specs.Scope.Hulls.{Range, has_empty, range_of}
+use Rattle.species_ast.specs.Scope.Hulls.{Range, range_of}
 use Rattle.species_ast.specs.Scope.Limits.{goes}
 use Rattle.species_ast.specs.Scope.References.{Where, Reference, perhaps, placed, in_turn, subscripts, elements_of, Referring, list_references, addition_references, Adding, references_at, references_inside, stmt_references, unless_empty}
 use Rattle.species_ast.proofs.Folds.{fold_stmt-Assign, fold_stmt-AddTo, fold_stmt-Declare, fold_stmt-SetLocal, fold_stmt-If, fold_stmt-For, fold_stmt-Block, fold_loop}

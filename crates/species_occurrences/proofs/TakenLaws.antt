@@ -1,9 +1,8 @@
 -- The values that an iterator takes lie in the range of its loop.
-use Rattle.std.proofs.Common.{◌≡◌, refl, ap, sym, ◌∙◌, subst, arith, ℕ, zero, suc, Bool, true, false, ◌&&◌, ◌||◌, if◌then◌else◌, List, [], ◌∷◌, ◌++◌, ℤ, pos, negsuc, ◌+ℤ◌, ◌*ℤ◌, ◌≤ℤ◌, Option, Some, None}
-use Rattle.std.specs.Prelude.{int_lt}
+use Rattle.std.proofs.Common.{◌≡◌, refl, ap, sym, subst, arith, ℕ, Bool, true, false, ◌&&◌, ◌||◌, if◌then◌else◌, List, [], ◌∷◌, ◌++◌, ℤ, pos, negsuc, ◌≤ℤ◌, Some, None}
 use Rattle.std.proofs.lemmas.Int.{ints}
 use Rattle.species_ast.specs.declared.tree.Stmt.TheOpen.{Loop-F}
-use Rattle.species_ast.specs.Run.{distance, pace, turns_in, iterator_values}
+use Rattle.species_ast.specs.Run.{iterator_values}
 use Rattle.species_ast.specs.Scope.Forms.{Form, form_of, is_constant, form_value}
 use Rattle.species_ast.specs.Scope.Hulls.{Range, is_empty, has_empty, AreIn, last_form, fixed_range, wide_range, no_range, start_constant, range_between, form_or_zero, range_of}
 use Rattle.species_ast.specs.Scope.Limits.{goes}
@@ -12,7 +11,7 @@ use Rattle.species_ast.proofs.Induction.{Each}
 use Rattle.species_ast.proofs.IteratorLaws.{in_turn}
 use Rattle.species_occurrences.specs.Iterators.{IsInt, AreInts, IsCounted, MayTake, AreTaken}
 use Rattle.species_occurrences.proofs.FormLaws.{value-is_constant}
-use Rattle.species_occurrences.proofs.RangeLaws.{less_of, range_start, range_step, last_of, value-last_form, IsBetween, turn_between, int_between, each_counted, in_fixed}
+use Rattle.species_occurrences.proofs.RangeLaws.{less_of, range_start, range_step, value-last_form, IsBetween, turn_between, int_between, each_counted, in_fixed}
 
 -- values that are taken lie in the ranges
 pub taken_in : (path : List Range) (iters : List ℤ) → AreTaken path iters → AreIn path iters

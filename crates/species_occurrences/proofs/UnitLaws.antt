@@ -1,7 +1,6 @@
 -- The laws as the public function promises them.
-use Rattle.std.proofs.Common.{◌≡◌, refl, arith, ℕ, zero, suc, List, [], ◌∷◌, All, ℤ, pos, Some, None, false}
+use Rattle.std.proofs.Common.{refl, arith, zero, suc, List, [], ◌∷◌, All, ℤ, pos, None, false}
 use Rattle.std.proofs.lemmas.Int.{ints}
-use Rattle.species_ast.specs.Accesses.{Joins, Cells, Access}
 use Rattle.species_ast.specs.Evaluation.{sense, sizes_of}
 use Rattle.species_ast.specs.Run.{source_context, program_of}
 use Rattle.species_ast.specs.Scope.Hulls.{Range}

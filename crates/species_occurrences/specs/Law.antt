@@ -1,5 +1,5 @@
 -- The laws that tie the accesses of a run to the references of the text.
-use Rattle.std.specs.Prelude.{◌≡◌, ℕ, List, [], Some, All, map, ◌++◌}
+use Rattle.std.specs.Prelude.{◌≡◌, ℕ, Some, All, map, ◌++◌}
 use Rattle.std.specs.List.{Contains}
 use Rattle.species_ast.specs.declared.tree.Expr.{Expr}
 use Rattle.species_ast.specs.declared.tree.Unit.{Unit as Program}

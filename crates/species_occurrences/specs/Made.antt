@@ -1,6 +1,6 @@
 -- Which reference makes an access.
 use Rattle.std.specs.Prelude.{◌≡◌, ◌⊎◌, ℕ, List, [], ◌∷◌, ◌++◌, ℤ}
-use Rattle.species_ast.specs.Accesses.{Access, Element}
+use Rattle.species_ast.specs.Accesses.{Access}
 use Rattle.species_ast.specs.Evaluation.{row_order}
 use Rattle.species_ast.specs.Scope.Loops.{PlacedLoop}
 use Rattle.species_ast.specs.Scope.References.{Reference, Adding, references_of}
