@@ -375,8 +375,6 @@ impl<'t, 'a> Cursor<'t, 'a> {
     pub(crate) fn is_at_type(&self) -> bool
         ensures { result ≡ starts is_type self.now }
     {
-        self.is_at_keyword(b"int")
-            || self.is_at_keyword(b"unsigned")
-            || self.is_at_keyword(b"long")
+        self.is_at_keyword(b"int") || self.is_at_keyword(b"unsigned") || self.is_at_keyword(b"long")
     }
 }

@@ -14,11 +14,20 @@ static DECLARED: [(&str, &str); 9] = [
         "unsigned long long int x, y = A[1];",
         " (declare unsigned-long-long (x) (y (A 1)))",
     ),
-    ("int x; long long y = -1ll;", " (declare int (x)) (declare long-long (y (neg 1ll)))"),
-    ("unsigned x = 18446744073709551615uLL;", " (declare unsigned (x 18446744073709551615ull))"),
+    (
+        "int x; long long y = -1ll;",
+        " (declare int (x)) (declare long-long (y (neg 1ll)))",
+    ),
+    (
+        "unsigned x = 18446744073709551615uLL;",
+        " (declare unsigned (x 18446744073709551615ull))",
+    ),
     ("x = 9223372036854775807LL;", " (= x 9223372036854775807ll)"),
     ("x = 2147483648;", "Lex(BadNumber(14))"),
-    ("x = 0x80000000 + 0xFFFFFFFFFll;", " (= x (+ 2147483648u 68719476735ll))"),
+    (
+        "x = 0x80000000 + 0xFFFFFFFFFll;",
+        " (= x (+ 2147483648u 68719476735ll))",
+    ),
 ];
 
 static NOT_DECLARED: [(&str, &str); 13] = [
@@ -44,7 +53,10 @@ static CAST: [(&str, &str); 7] = [
         "(unsigned long long)-a * b",
         "(* (unsigned-long-long (neg a)) b)",
     ),
-    ("(unsigned long long int)(int)a", "(unsigned-long-long (int a))"),
+    (
+        "(unsigned long long int)(int)a",
+        "(unsigned-long-long (int a))",
+    ),
     ("(long int)a", "Syntax(26)"),
     ("(int long)a", "Syntax(25)"),
     ("(long long a)", "Syntax(31)"),
