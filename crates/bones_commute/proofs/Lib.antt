@@ -1,0 +1,4 @@
+mod Elements
+mod Even
+mod Past
+mod Steps

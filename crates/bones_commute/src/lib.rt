@@ -1,0 +1,2 @@
+//! Why the iterations of a nest may run in any order: where they are apart, every interleaving ends in the arrays of the run.
+#![tactic(auto)]
