@@ -69,19 +69,26 @@ pub record HasBounds {X Y : Type 0} (l : Loop-F X Y) : Type 0 where
 abbrev pub AllTaken : Range → List ℤ → Type 0
 AllTaken r is = Each (λ i. MayTake r i × IsInt i) is
 
--- the law: each value that a header gives is one that the iterator may take
+-- the law: a header gives the values from the value of the start's form to that of the limit's, and the iterator may take each
+pub header_is : {X Y : Type 0} (w : Context) (l : Loop-F X Y) (bounds : HasBounds l) (s : Spot) (g : Where) (iters : List ℤ) (f : Frame) → HasIters iters f → StandsAt s.statement g iters
+    → (P : Access → Type 0)
+    → Every P (λ is. (is ≡ iterator_values l.test (form_value bounds.start iters) (form_value bounds.limit iters) l.step) × AllTaken (range_of g.path l) is) (heading l.test l.step (sense w l.start) (sense w l.limit) s f)
+header_is w l bounds s g iters f p st P =
+    let A = IsFormValue bounds.start iters in
+    let B = IsFormValue bounds.limit iters in
+    let values = iterator_values l.test (form_value bounds.start iters) (form_value bounds.limit iters) l.step in
+    let Q : List ℤ → Type 0 = λ is. (is ≡ values) × AllTaken (range_of g.path l) is in
+    every-then_do P A Q ((sense w l.start).does s 0 f) _ (bound_in w l.start bounds.start s 0 g iters f bounds.start_is p st P) (λ v of_v.
+    every-then_do P B Q ((sense w l.limit).does s (sense w l.start).elements f) _ (bound_in w l.limit bounds.limit s (sense w l.start).elements g iters f bounds.limit_is p st P) (λ u of_u.
+    let same : iterator_values l.test (reduced kind.Int (number_of v)) (reduced kind.Int (number_of u)) l.step ≡ values =
+    (λ i. iterator_values l.test (bound_number v (form_value bounds.start iters) of_v.0 of_v.1 i) (bound_number u (form_value bounds.limit iters) of_u.0 of_u.1 i) l.step)
+    in
+    (same, subst (AllTaken (range_of g.path l)) (sym same) (values_taken g.path l bounds.start bounds.limit iters bounds.start_is bounds.limit_is bounds.steps st.1 of_v.1 of_u.1))))
+
 pub header_taken : {X Y : Type 0} (w : Context) (l : Loop-F X Y) → HasBounds l → (s : Spot) (g : Where) (iters : List ℤ) (f : Frame) → HasIters iters f → StandsAt s.statement g iters
     → (P : Access → Type 0) → Every P (AllTaken (range_of g.path l)) (heading l.test l.step (sense w l.start) (sense w l.limit) s f)
 header_taken w l bounds s g iters f p st P =
-    let A = IsFormValue bounds.start iters in
-    let B = IsFormValue bounds.limit iters in
-    let Q = AllTaken (range_of g.path l) in
-    every-then_do P A Q ((sense w l.start).does s 0 f) _ (bound_in w l.start bounds.start s 0 g iters f bounds.start_is p st P) (λ v of_v.
-    every-then_do P B Q ((sense w l.limit).does s (sense w l.start).elements f) _ (bound_in w l.limit bounds.limit s (sense w l.start).elements g iters f bounds.limit_is p st P) (λ u of_u.
-    let same : iterator_values l.test (reduced kind.Int (number_of v)) (reduced kind.Int (number_of u)) l.step ≡ iterator_values l.test (form_value bounds.start iters) (form_value bounds.limit iters) l.step =
-    (λ i. iterator_values l.test (bound_number v (form_value bounds.start iters) of_v.0 of_v.1 i) (bound_number u (form_value bounds.limit iters) of_u.0 of_u.1 i) l.step)
-    in
-    subst Q (sym same) (values_taken g.path l bounds.start bounds.limit iters bounds.start_is bounds.limit_is bounds.steps st.1 of_v.1 of_u.1)))
+    every_weaker P P _ (AllTaken (range_of g.path l)) (heading l.test l.step (sense w l.start) (sense w l.limit) s f) (λ a h. h) (λ is q. q.1) (header_is w l bounds s g iters f p st P)
 
 -- ---- turns
 

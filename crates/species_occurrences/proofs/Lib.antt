@@ -16,3 +16,8 @@ pub mod LocationLaws
 pub mod RunningTaken
 pub mod NestReferences
 pub mod UnitLaws
+pub mod SurelyLaws
+pub mod SurelyExpressions
+pub mod ReachedLaws
+pub mod SurelySimple
+pub mod SurelyStatements

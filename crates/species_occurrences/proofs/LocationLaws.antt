@@ -18,7 +18,7 @@ use Rattle.species_ast.specs.Scope.Forms.{form_of}
 use Rattle.species_ast.specs.Scope.Hulls.{range_of}
 use Rattle.species_ast.specs.Scope.Limits.{goes}
 use Rattle.species_ast.specs.Scope.Loops.{Standing, PlacedLoop, standing_in, numbered, Placing, list_loops, loops_in, outside_loops, placed_loops}
-use Rattle.species_ast.specs.Scope.References.{Reference, Adding, elements_of, references_of}
+use Rattle.species_ast.specs.Scope.References.{Where, Reference, Adding, elements_of, references_of}
 use Rattle.species_ast.proofs.Folds.{fold_stmt-If, fold_stmt-For, fold_stmt-Block, fold_loop}
 use Rattle.species_ast.proofs.Induction.{Each, each_all, stmt_ind}
 use Rattle.species_ast.proofs.RunLaws.{step-If, step-For, step-Block, loop-roll}
@@ -32,7 +32,7 @@ use Rattle.species_occurrences.specs.Regular.{regular_at, regular_loop, is_regul
 use Rattle.species_occurrences.proofs.HeaderLaws.{HasIters, looping_every}
 use Rattle.species_occurrences.proofs.MadeLaws.{every_all}
 use Rattle.species_occurrences.proofs.NestLaws.{unconditional, nest_made}
-use Rattle.species_occurrences.proofs.PositionLaws.{each_weaker, IsAmongThose, one_of_those, those_wider, apart, not_longer, IsStatedAt, stated, loops_in-Assign, loops_in-AddTo, loops_in-Declare, loops_in-SetLocal, loops_in-If, loops_in-For, loops_in-Block, StandsIn, StandsAmong, nested, nested_list}
+use Rattle.species_occurrences.proofs.PositionLaws.{each_weaker, IsAmongThose, one_of_those, those_wider, apart, not_longer, IsOf, stated, loops_in-Assign, loops_in-AddTo, loops_in-Declare, loops_in-SetLocal, loops_in-If, loops_in-For, loops_in-Block, StandsIn, StandsAmong, nested, nested_list}
 use Rattle.species_occurrences.proofs.SimpleLaws.{any_in}
 use Rattle.species_occurrences.proofs.StatementLaws.{cleared_iters, bounds_of}
 use Rattle.species_occurrences.proofs.TakenLaws.{taken_inside, ints_inside}
@@ -40,10 +40,10 @@ use Rattle.species_occurrences.proofs.TakenLaws.{taken_inside, ints_inside}
 -- ---- accesses that stand elsewhere
 
 -- an access that is made by references of one statement stands in it
-among_statement : (at : List ℕ) (rs : List Reference) (sizes : ℕ → List ℕ) (a : Access) → Each (IsStatedAt at) rs → IsMadeAmong sizes rs a → a.site.statement ≡ at
-among_statement at [] sizes a h m = absurd m
-among_statement at (r ∷ rs) sizes a h (inl m) = m.statement ∙ h.0
-among_statement at (r ∷ rs) sizes a h (inr m) = among_statement at rs sizes a h.1 m
+among_statement : (g : Where) (rs : List Reference) (sizes : ℕ → List ℕ) (a : Access) → Each (IsOf g) rs → IsMadeAmong sizes rs a → a.site.statement ≡ g.statement
+among_statement g [] sizes a h m = absurd m
+among_statement g (r ∷ rs) sizes a h (inl m) = m.statement ∙ h.0.statement
+among_statement g (r ∷ rs) sizes a h (inr m) = among_statement g rs sizes a h.1 m
 
 -- no access that stands elsewhere is inside these loops
 elsewhere : (adds : Adding) (sizes : ℕ → List ℕ) (ls : List PlacedLoop) (a : Access) → Each (λ l. Begins l.stands.statement a.site.statement → ⊥) ls → IsMadeInEach adds sizes ls a
@@ -151,7 +151,7 @@ test_located w adds x place s iters f ls lo hi taken ints p among =
     let g = unconditional s.statement s.around.path in
     let rs = (elements_of x).references g 0 in
     every_weaker (IsMade (sizes_of w) iters rs) (IsMadeInEach adds (sizes_of w) ls) Anything Anything ((sense w x).does (spot place s.statement) 0 f)
-    (λ a m. around_elsewhere adds (sizes_of w) s.statement lo hi ls a (among_statement s.statement rs (sizes_of w) a (stated x g 0) m.0) among) (λ v q. q)
+    (λ a m. around_elsewhere adds (sizes_of w) s.statement lo hi ls a (among_statement g rs (sizes_of w) a (stated x g 0) m.0) among) (λ v q. q)
     (any_in w x (spot place s.statement) 0 g iters f p (refl, taken, ints))
 
 choice_located : (w : Context) (adds : Adding) (place : ℕ) (test : Expr) (body otherwise : List Stmt) → Each (IsStmtLocated w adds) body → Each (IsStmtLocated w adds) otherwise

@@ -1,5 +1,5 @@
 -- Where references and loops stand.
-use Rattle.std.proofs.Common.{◌≡◌, refl, ap, sym, ◌∙◌, subst, arith, ℕ, suc, ◌+◌, ◌<◌, ◌≤◌, List, [], ◌∷◌, ◌++◌, map, length, Bool, Option, ◌⊎◌, inl, inr}
+use Rattle.std.proofs.Common.{◌≡◌, refl, ap, sym, ◌∙◌, subst, arith, ℕ, suc, ◌+◌, ◌<◌, ◌≤◌, List, [], ◌∷◌, ◌++◌, map, length, Bool, true, Option, ◌⊎◌, inl, inr}
 use Rattle.std.proofs.lemmas.List.{length-map, append_assoc, append-nil}
 use Rattle.species_ast.specs.declared.tree.Expr.{Expr}
 use Rattle.species_ast.specs.declared.tree.Loop.{Loop, roll-Loop}
@@ -70,21 +70,24 @@ not_longer [] k l more h = none_is h
     none_is e = cc
 not_longer (a ∷ at) k l more h = not_longer at k l more (ap rest_of h)
 
--- ---- the references of an expression stand in its statement
+-- ---- the references of an expression stand in its statement, and in the loops around it
 
-abbrev pub IsStatedAt : List ℕ → Reference → Type 0
-IsStatedAt at r = r.statement ≡ at
+pub record IsOf (g : Where) (r : Reference) : Type 0 where
+  pub statement : r.statement ≡ g.statement
+  pub path : r.path ≡ g.path
+  pub conditional : g.conditional ≡ true → r.conditional ≡ true
 
 abbrev pub IsStated : Elements → Type 0
-IsStated e = (g : Where) (n : ℕ) → Each (IsStatedAt g.statement) (e.references g n)
+IsStated e = (g : Where) (n : ℕ) → Each (IsOf g) (e.references g n)
 
 stated_then : (a b : Elements) → IsStated a → IsStated b → IsStated (then_elements a b)
-stated_then a b h k g n = each_append (IsStatedAt g.statement) (a.references g n) (b.references g (n + a.count)) (h g n) (k g (n + a.count))
+stated_then a b h k g n = each_append (IsOf g) (a.references g n) (b.references g (n + a.count)) (h g n) (k g (n + a.count))
 
 stated_condition : (a : Elements) → IsStated a → IsStated (on_condition a)
-stated_condition a h g n = h (perhaps g) n
+stated_condition a h g n =
+    each_weaker (IsOf (perhaps g)) (IsOf g) (λ r o. record { statement = o.statement; path = o.path; conditional = λ _. o.conditional refl }) (a.references (perhaps g) n) (h (perhaps g) n)
 
-stated_all : (es : List Expr) → Each (λ x. IsStated (elements_of x)) es → IsStated (all_elements (map elements_of es))
+pub stated_all : (es : List Expr) → Each (λ x. IsStated (elements_of x)) es → IsStated (all_elements (map elements_of es))
 stated_all [] h = λ g n. tt
 stated_all (x ∷ es) h = stated_then (elements_of x) (all_elements (map elements_of es)) h.0 (stated_all es h.1)
 
@@ -97,7 +100,7 @@ stated = expr_ind (λ x. IsStated (elements_of x)) (record {
   iter = λ level. becomes _ no_elements (para_expr-Iter elements_at level) (λ g n. tt);
   local = λ x. becomes _ no_elements (para_expr-Local elements_at x) (λ g n. tt);
   elem = λ a subs h. becomes _ _ (elements_of-Elem a subs) (λ g n.
-      each_append (IsStatedAt g.statement) ((all_elements (map elements_of subs)).references g n) _ (stated_all subs h g n) (refl, tt));
+      each_append (IsOf g) ((all_elements (map elements_of subs)).references g n) _ (stated_all subs h g n) (record { statement = refl; path = refl; conditional = λ c. c }, tt));
   unary = λ op a h. becomes _ _ (para_expr-Unary elements_at op a) h;
   binary = λ op a b h k. becomes _ _ (para_expr-Binary elements_at op a b) (stated_then (elements_of a) (elements_of b) h k);
   both = λ a b h k. becomes _ _ (para_expr-And elements_at a b) (stated_then (elements_of a) (on_condition (elements_of b)) h (stated_condition (elements_of b) k));

@@ -18,15 +18,15 @@ less_of x y h = grind (arith, ints)
 
 -- ---- the range keeps the start and the step
 
-fixed_start : (step first last : ℤ) → (fixed_range step first last).start ≡ Some first
+pub fixed_start : (step first last : ℤ) → (fixed_range step first last).start ≡ Some first
 fixed_start (pos n) first last = refl
 fixed_start (negsuc n) first last = refl
 
-fixed_step : (step first last : ℤ) → (fixed_range step first last).step ≡ step
+pub fixed_step : (step first last : ℤ) → (fixed_range step first last).step ≡ step
 fixed_step (pos n) first last = refl
 fixed_step (negsuc n) first last = refl
 
-wide_start : (path : List Range) (step : ℤ) (first last : Form) → (wide_range path step first last).start ≡ start_constant first
+pub wide_start : (path : List Range) (step : ℤ) (first last : Form) → (wide_range path step first last).start ≡ start_constant first
 wide_start path (pos n) first last = refl
 wide_start path (negsuc n) first last = refl
 

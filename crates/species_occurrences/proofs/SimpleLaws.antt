@@ -23,7 +23,7 @@ use Rattle.species_occurrences.proofs.MadeLaws.{among_left, every_left, every_ri
 abbrev pub IsDoneBy : (ℕ → List ℕ) → List Reference → List ℤ → (Frame → Tree Frame) → Type 0
 IsDoneBy sizes rs iters does = (f : Frame) → HasIters iters f → Every (IsMade sizes iters rs) (HasIters iters) (does f)
 
-all_made : (w : Context) (xs : List Expr) → Each (ExprMade w) xs
+pub all_made : (w : Context) (xs : List Expr) → Each (ExprMade w) xs
 all_made w xs = each_all (ExprMade w) (expr_made w) xs
 
 pub any_in : (w : Context) (x : Expr) (s : Spot) (n : ℕ) (g : Where) (iters : List ℤ) (f : Frame) → HasIters iters f → StandsAt s.statement g iters
@@ -32,7 +32,7 @@ any_in w x s n g iters f p h =
     let P = IsMade (sizes_of w) iters ((elements_of x).references g n) in
     every_weaker P P (IsValueOf (form_of x) iters) Anything ((sense w x).does s n f) (λ a m. m) (λ v _. tt) (expr_in w x s n g iters f p h)
 
-target_in : (w : Context) (a : ℕ) (subs : List Expr) (s : Spot) (g : Where) (iters : List ℤ) (f : Frame) → HasIters iters f → StandsAt s.statement g iters
+pub target_in : (w : Context) (a : ℕ) (subs : List Expr) (s : Spot) (g : Where) (iters : List ℤ) (f : Frame) → HasIters iters f → StandsAt s.statement g iters
     → Every (IsMade (sizes_of w) iters ((subscripts subs).references g 0)) (AreIndicesFor (sizes_of w) a (map form_of subs) iters) (target_of w a (map (sense w) subs) s 0 f)
 target_in w a subs s g iters f p h =
     subst (λ z. Every (IsMade (sizes_of w) z ((subscripts subs).references g 0)) (AreIndicesFor (sizes_of w) a (map form_of subs) z) (target_of w a (map (sense w) subs) s 0 f)) p
@@ -46,7 +46,7 @@ value_in w subs x s g iters f p h =
     (any_in w x s (suc (elements_in (map (sense w) subs))) g iters f p h)
 
 -- the target itself
-target_made : (w : Context) (a : ℕ) (subs : List Expr) (d : Direction) (s : Spot) (g : Where) (iters : List ℤ) (f : Frame) (is : List ℕ) (v : Value) → HasIters iters f → StandsAt s.statement g iters
+pub target_made : (w : Context) (a : ℕ) (subs : List Expr) (d : Direction) (s : Spot) (g : Where) (iters : List ℤ) (f : Frame) (is : List ℕ) (v : Value) → HasIters iters f → StandsAt s.statement g iters
     → AreIndicesFor (sizes_of w) a (map form_of subs) iters is
     → IsMade (sizes_of w) iters (target_reference subs d a g ∷ []) (access (site_at s (elements_in (map (sense w) subs)) f is) d (element_at w a is) v)
 target_made w a subs d s g iters f is v p h of =
@@ -96,7 +96,7 @@ adding_done w a atomic subs x s g iters h f p =
     every_then (sizes_of w) iters ((subscripts subs).references g 0) (addition_references atomic a subs x g) (AreIndicesFor (sizes_of w) a (map form_of subs) iters) (HasIters iters)
     (target_of w a (map (sense w) subs) s 0 f) _ (target_in w a subs s g iters f p h) (λ is of. addition_done w a atomic subs x s g iters f is p h of)
 
-initial_done : (w : Context) (k : Kind) (s : Spot) (init : Option Expr) (g : Where) (iters : List ℤ) (f : Frame) → HasIters iters f → StandsAt s.statement g iters
+pub initial_done : (w : Context) (k : Kind) (s : Spot) (init : Option Expr) (g : Where) (iters : List ℤ) (f : Frame) → HasIters iters f → StandsAt s.statement g iters
     → Every (IsMade (sizes_of w) iters (init_references init g)) Anything (initial w k s init f)
 initial_done w k s None g iters f p h = tt
 initial_done w k s (Some x) g iters f p h =

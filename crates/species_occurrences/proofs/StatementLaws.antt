@@ -98,7 +98,7 @@ stmt_from : (w : Context) (adds : Adding) (x : Stmt) (r : Bool) (k : Referring) 
 stmt_from w adds x r k y p q s h regular at g iters band st =
     subst (λ z. IsDoneBy (sizes_of w) (z g band) iters ((step w x).does at)) (sym q) (subst (λ z. IsDoneBy (sizes_of w) (k g band) iters (z.does at)) (sym s) (h (sym p ∙ regular) at g iters band st))
 
-agreed : (a b : Bool) → agree a b ≡ true → b ≡ a
+pub agreed : (a b : Bool) → agree a b ≡ true → b ≡ a
 agreed true true h = refl
 agreed true false h = absurd cc
 agreed false true h = absurd cc

@@ -3,3 +3,4 @@ pub mod Affine
 pub mod Made
 pub mod Regular
 pub mod Law
+pub mod Surely
