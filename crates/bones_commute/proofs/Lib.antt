@@ -1,4 +1,7 @@
+mod Apart
 mod Elements
 mod Even
+mod NestPlays
+mod Orders
 mod Past
 mod Steps
