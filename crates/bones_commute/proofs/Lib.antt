@@ -4,4 +4,5 @@ mod Even
 mod NestPlays
 mod Orders
 mod Past
+mod PlayLaws
 mod Steps
