@@ -1,8 +1,12 @@
 mod Apart
+mod CountLaws
 mod Elements
 mod Even
 mod NestPlays
 mod Orders
 mod Past
+mod PlayExamples
 mod PlayLaws
 mod Steps
+mod UnitLaws
+mod UnitRuns

@@ -1,3 +1,4 @@
+pub mod Laws
 pub mod Orderly
 pub mod Scripts
 pub mod ScriptsOfRuns
