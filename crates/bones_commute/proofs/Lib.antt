@@ -2,6 +2,7 @@ mod Apart
 mod CountLaws
 mod Elements
 mod Even
+mod JoinedLaws
 mod NestPlays
 mod Orders
 mod Past

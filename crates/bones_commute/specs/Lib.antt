@@ -1,3 +1,4 @@
+pub mod Joined
 pub mod Laws
 pub mod Orderly
 pub mod Scripts
