@@ -137,10 +137,13 @@ list_fulfilled w adds (x ∷ xs) h t g k band =
     before z here rs ((step w x).does here.statement) (λ f. does_list w xs g.statement (suc k)) (h.0 parts.0 here band) in
     let rest = list_fulfilled w adds xs h.1 parts.1 g (suc k) band in
     fulfilled_append z g rs ps (does_list w (x ∷ xs) g.statement k) first (λ r one c.
-    let u = rest r one c in
-    (u.0, u.1, λ iters more taken ints constant turns f p.
-    surely_second (IsDoneAt z (iters ++ more) r) (IsMade z iters rs) (HasIters iters) ((step w x).does here.statement f) (does_list w xs g.statement (suc k))
-    (stmt_made w adds x parts.0 here.statement here iters band (refl, taken, ints) f p) (λ e q. u.2 iters more taken ints constant turns e q)))
+    let u = rest r one c in (
+      u.0,
+      u.1,
+      λ iters more taken ints constant turns f p.
+          surely_second (IsDoneAt z (iters ++ more) r) (IsMade z iters rs) (HasIters iters) ((step w x).does here.statement f) (does_list w xs g.statement (suc k))
+          (stmt_made w adds x parts.0 here.statement here iters band (refl, taken, ints) f p) (λ e q. u.2 iters more taken ints constant turns e q),
+    ))
 
 scope_fulfilled : (w : Context) (adds : Adding) (xs : List Stmt) → Each (IsStmtFulfilled w adds) xs → all_true (map (is_regular adds) xs) ≡ true → (g : Where) (k band : ℕ)
     → AreFulfilled (sizes_of w) g (list_references (map (stmt_references adds) xs) g k band) (does_scope w xs g.statement k)
@@ -200,9 +203,12 @@ loop_fulfilled w adds l h t g band r one c =
     let inner = in_turn g l in
     let found = list_references (map (stmt_references adds) l.body) inner 0 (band - 1) in
     let body = does_scope w l.body g.statement 0 in
-    let u = scope_fulfilled w adds l.body h asked.1 inner 0 (band - 1) r (kept_one band inner.path found r one) c in
-    (range_of g.path l ∷ u.0, u.1 ∙ append_assoc g.path (range_of g.path l ∷ []) u.0, λ iters rest taken ints constant turning f p.
-    subst (Surely (IsDoneAt (sizes_of w) (iters ++ rest) r)) (sym (loop-roll w l g.statement f)) (looping_done w l asked.0 body g u.0 r u.2 iters rest taken ints constant turning f p))
+    let u = scope_fulfilled w adds l.body h asked.1 inner 0 (band - 1) r (kept_one band inner.path found r one) c in (
+      range_of g.path l ∷ u.0,
+      u.1 ∙ append_assoc g.path (range_of g.path l ∷ []) u.0,
+      λ iters rest taken ints constant turning f p.
+          subst (Surely (IsDoneAt (sizes_of w) (iters ++ rest) r)) (sym (loop-roll w l g.statement f)) (looping_done w l asked.0 body g u.0 r u.2 iters rest taken ints constant turning f p),
+    )
 
 -- ---- each statement
 

@@ -27,6 +27,7 @@ deep_depth n ps = go (nat_le 2 n && nat_le n 8) refl
   where
     one : (n : ℕ) → nat_le 2 n ≡ true → nat_le 1 n ≡ true
     one n e = le-leb 1 n (omega (arith, leb-true 2 n e))
+
     go : (c : Bool) → (nat_le 2 n && nat_le n 8) ≡ c → IsDepth (if c then Some (n, ps) else None)
     go false e = tt
     go true e = one n (and_parts (nat_le 2 n) (nat_le n 8) e).0

@@ -83,7 +83,7 @@ local_noted k n init s m h =
   where
     go : (inner : Scope) (value : Option ExprReading) (names : List Occurrence) → length names ≤ suc m → (c : Bool)
         → noted (if c then piece [] (names_only names) inner
-          else piece (kept_local k n value s) (record { locals = record { name = n.text; kind = k } ∷ []; names = names; loops = [] }) inner) ≤ suc m
+        else piece (kept_local k n value s) (record { locals = record { name = n.text; kind = k } ∷ []; names = names; loops = [] }) inner) ≤ suc m
     go inner value names e true = e
     go inner value names e false = e
 
@@ -115,8 +115,8 @@ declaration_fits : (x : RawStmt) (ts : List Token) → LocalDeclaration x ts →
 declaration_fits x ts (LocalDeclaration.declaration p q k l rest ks xs us t d e) =
     stmt_as _ (length (ks ++ ((xs ++ us) ++ punctuator q ";" ∷ []))) _ _ (stmt_piece-Declare p k (l ∷ rest)) (statements_in-Declare p k (l ∷ rest))
     (λ s.
-      let a = then_fits (declarator k l) (map (declarator k) rest) (length xs) (length us) (declarator_fits k l xs d) (declarators_fit k rest us e) s in
-      omega (arith, a, some_type p k ks t, length-append ks ((xs ++ us) ++ punctuator q ";" ∷ []), length-append (xs ++ us) (punctuator q ";" ∷ []), length-append xs us))
+    let a = then_fits (declarator k l) (map (declarator k) rest) (length xs) (length us) (declarator_fits k l xs d) (declarators_fit k rest us e) s in
+    omega (arith, a, some_type p k ks t, length-append ks ((xs ++ us) ++ punctuator q ";" ∷ []), length-append (xs ++ us) (punctuator q ";" ∷ []), length-append xs us))
 
 -- ---- loops
 
@@ -147,11 +147,16 @@ header_fits h hs (ForHeader.header p q r o u w b i j c x y st bs xs ys ss opt dx
     let closed = ss ++ punctuator w ")" ∷ [] in
     let limited = ys ++ (punctuator u ";" ∷ closed) in
     let started = xs ++ (punctuator r ";" ∷ name j ∷ sign o (test_sign c) ∷ limited) in
-    omega (arith, a, e, f,
+    omega (
+      arith,
+      a,
+      e,
+      f,
       length-append bs (name i ∷ punctuator q "=" ∷ started),
       length-append xs (punctuator r ";" ∷ name j ∷ sign o (test_sign c) ∷ limited),
       length-append ys (punctuator u ";" ∷ closed),
-      length-append ss (punctuator w ")" ∷ []))
+      length-append ss (punctuator w ")" ∷ []),
+    )
 
 -- the names of a loop are those of its header and its body
 loop_noted : (l : Parts) (p : ℕ) (s : Scope) →
@@ -164,12 +169,14 @@ loop_noted l p s =
     let by = l.step d in
     let heads = map (occurrence InHeader d) by.variables in
     let others = occurrence InHeader d l.tested ∷ heads in
-    omega (arith,
+    omega (
+      arith,
       mapped (occurrence InHeader d) by.variables,
       length-append heads by.names,
       length-append limit (others ++ by.names),
       length-append start (limit ++ (others ++ by.names)),
-      length-append (start ++ (limit ++ (others ++ by.names))) (l.body d).notes.names)
+      length-append (start ++ (limit ++ (others ++ by.names))) (l.body d).notes.names,
+    )
 
 -- ---- all statements
 
@@ -182,40 +189,78 @@ mutual
       stmt_as _ (length (cs ++ punctuator q ";" ∷ [])) _ _ (stmt_piece-Change p y) (statements_in-Change p y) (λ s. omega (arith, change_fits p p y cs d s, length-append cs (punctuator q ";" ∷ [])))
   stmt_fits b x ts (Statement.atomic_assignment p q n t y us ys dt dy) =
       stmt_as _ (suc (length (us ++ (punctuator p "+=" ∷ (ys ++ punctuator q ";" ∷ []))))) _ _ (stmt_piece-Atomic (target_place t) t y) (statements_in-Atomic (target_place t) t y)
-      (λ s. omega (arith, by_value (λ s. increased s (target_place t) true) t y us ys _ dt dy s,
-        length-append us (punctuator p "+=" ∷ (ys ++ punctuator q ";" ∷ [])), length-append ys (punctuator q ";" ∷ [])))
+      (λ s. omega (
+        arith,
+        by_value (λ s. increased s (target_place t) true) t y us ys _ dt dy s,
+        length-append us (punctuator p "+=" ∷ (ys ++ punctuator q ";" ∷ [])),
+        length-append ys (punctuator q ";" ∷ []),
+      ))
   stmt_fits b x ts (Statement.if_only b' p q r y body ys ss dy ds) =
       stmt_as _ (suc (length ((punctuator q "(" ∷ (ys ++ punctuator r ")" ∷ [])) ++ ss))) _ _ (stmt_piece-If p y body) (statements_in-If p y body)
       (λ s.
-        let first = (stmt_piece body s).notes.names in
-        omega (arith, expr_fits s _ y ys dy, stmt_fits b' body ss ds s,
-          length-append (reading y s).names (first ++ []), length-append first [],
-          length-append (punctuator q "(" ∷ (ys ++ punctuator r ")" ∷ [])) ss, length-append (ys ++ punctuator r ")" ∷ []) ss, length-append ys (punctuator r ")" ∷ [])))
+      let first = (stmt_piece body s).notes.names in
+      omega (
+        arith,
+        expr_fits s _ y ys dy,
+        stmt_fits b' body ss ds s,
+        length-append (reading y s).names (first ++ []),
+        length-append first [],
+        length-append (punctuator q "(" ∷ (ys ++ punctuator r ")" ∷ [])) ss,
+        length-append (ys ++ punctuator r ")" ∷ []) ss,
+        length-append ys (punctuator r ")" ∷ []),
+      ))
   stmt_fits b x ts (Statement.if_else b' p q r o y body other ys ss us dy ds dt) =
       stmt_as _ (suc (length (((punctuator q "(" ∷ (ys ++ punctuator r ")" ∷ [])) ++ ss) ++ (keyword o "else" ∷ us)))) _ _ (stmt_piece-IfElse p y body other) (statements_in-IfElse p y body other)
       (λ s.
-        let first = stmt_piece body s in
-        let d = behind s first.next in
-        let second = stmt_piece other d in
-        let test = ys ++ punctuator r ")" ∷ [] in
-        omega (arith, expr_fits s _ y ys dy, stmt_fits false body ss ds s, stmt_fits b' other us dt d,
-          length-append (reading y s).names (first.notes.names ++ second.notes.names), length-append first.notes.names second.notes.names,
-          length-append (test ++ ss) (keyword o "else" ∷ us), length-append test ss, length-append ys (punctuator r ")" ∷ [])))
+      let first = stmt_piece body s in
+      let d = behind s first.next in
+      let second = stmt_piece other d in
+      let test = ys ++ punctuator r ")" ∷ [] in
+      omega (
+        arith,
+        expr_fits s _ y ys dy,
+        stmt_fits false body ss ds s,
+        stmt_fits b' other us dt d,
+        length-append (reading y s).names (first.notes.names ++ second.notes.names),
+        length-append first.notes.names second.notes.names,
+        length-append (test ++ ss) (keyword o "else" ∷ us),
+        length-append test ss,
+        length-append ys (punctuator r ")" ∷ []),
+      ))
   stmt_fits b x ts (Statement.for b' p l m h body ls ms hs ss dl dm dh ds) =
       let raw : RawLoop-F RawWhat RawLoop RawStmt = record { line = l; parallel = m; typed = h.typed; iter = h.iter; start = h.start; tested = h.tested; test = h.test; limit = h.limit; step = h.step; body = body } in
       stmt_as _ (length (ls ++ (ms ++ (keyword p "for" ∷ (hs ++ ss))))) _ _ (stmt_piece-Loop p raw) (statements_in-Loop p raw)
       (λ s.
-        let d = in_loop h.iter s in
-        omega (arith, loop_noted (parts_in raw) p s, header_fits h hs dh s d, stmt_fits b' body ss ds d,
-          length-append ls (ms ++ (keyword p "for" ∷ (hs ++ ss))), length-append ms (keyword p "for" ∷ (hs ++ ss)), length-append hs ss))
+      let d = in_loop h.iter s in
+      omega (
+        arith,
+        loop_noted (parts_in raw) p s,
+        header_fits h hs dh s d,
+        stmt_fits b' body ss ds d,
+        length-append ls (ms ++ (keyword p "for" ∷ (hs ++ ss))),
+        length-append ms (keyword p "for" ∷ (hs ++ ss)),
+        length-append hs ss,
+      ))
 
   pub items_fit : (xs : List RawStmt) (ts : List Token) → BlockItems xs ts → ListFits xs (length ts)
   items_fit xs ts (BlockItems.end p) s = omega arith
   items_fit xs ts (BlockItems.item b x rest ss us d e) s =
       let first = stmt_piece x s in
-      omega (arith, stmt_fits b x ss d s, items_fit rest us e first.next, statements_in-list x rest,
-        length-append first.notes.names (in_order (map stmt_piece rest) first.next).notes.names, length-append ss us)
+      omega (
+        arith,
+        stmt_fits b x ss d s,
+        items_fit rest us e first.next,
+        statements_in-list x rest,
+        length-append first.notes.names (in_order (map stmt_piece rest) first.next).notes.names,
+        length-append ss us,
+      )
   items_fit xs ts (BlockItems.declaration x rest ss us d e) s =
       let first = stmt_piece x s in
-      omega (arith, declaration_fits x ss d s, items_fit rest us e first.next, statements_in-list x rest,
-        length-append first.notes.names (in_order (map stmt_piece rest) first.next).notes.names, length-append ss us)
+      omega (
+        arith,
+        declaration_fits x ss d s,
+        items_fit rest us e first.next,
+        statements_in-list x rest,
+        length-append first.notes.names (in_order (map stmt_piece rest) first.next).notes.names,
+        length-append ss us,
+      )

@@ -50,8 +50,13 @@ arrays_fit k zs ts (MoreArrays.more p a rest xs us d e) ps more m h = λ n s.
 
 global_fits : (g : RawItem) (ts : List Token) → GlobalDeclaration g ts → (ps : List ArrayParts) (more m : ℕ) → BehindFits ps more m → BehindFits (arrays_of g ++ ps) more (length ts + m)
 global_fits g ts (GlobalDeclaration.global p q k a rest ks xs us t d e) ps more m h = λ n s.
-    omega (arith, array_fits k a xs d (map (parts_of k) rest ++ ps) more (length us + m) (arrays_fit k rest us e ps more m h) n s,
-      length-append ks ((xs ++ us) ++ punctuator q ";" ∷ []), length-append (xs ++ us) (punctuator q ";" ∷ []), length-append xs us)
+    omega (
+      arith,
+      array_fits k a xs d (map (parts_of k) rest ++ ps) more (length us + m) (arrays_fit k rest us e ps more m h) n s,
+      length-append ks ((xs ++ us) ++ punctuator q ";" ∷ []),
+      length-append (xs ++ us) (punctuator q ";" ∷ []),
+      length-append xs us,
+    )
 
 -- ---- programs
 
