@@ -21,3 +21,4 @@ pub mod SurelyExpressions
 pub mod ReachedLaws
 pub mod SurelySimple
 pub mod SurelyStatements
+pub mod IterationLaws

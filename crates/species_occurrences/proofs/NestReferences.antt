@@ -144,20 +144,10 @@ nest_iteration_made takes w adds d l at path iters f regular taken ints p =
     subst (λ rs. Every (IsMade (sizes_of w) iters rs) (HasIters iters) (iteration takes w n.body n.at f)) (sym (nest_references adds d l at path))
     (iteration_made takes w adds n.body n.at (unconditional n.at (ranges_of path (loops_of_nest n.loops))) iters 0 f (nest_regular adds d l at regular) (refl, taken, ints) p)
 
-each_loop : (ls : List Placed) → Each (λ p. IsBounded p.loop) ls → Each IsBounded (loops_of_nest ls)
+pub each_loop : (ls : List Placed) → Each (λ p. IsBounded p.loop) ls → Each IsBounded (loops_of_nest ls)
 each_loop [] h = tt
 each_loop (p ∷ ls) h = (h.0, each_loop ls h.1)
 
-each_both : (xs ys : List Loop) → Each IsBounded xs → Each IsBounded ys → Each IsBounded (xs ++ ys)
+pub each_both : (xs ys : List Loop) → Each IsBounded xs → Each IsBounded ys → Each IsBounded (xs ++ ys)
 each_both [] ys h k = k
 each_both (x ∷ xs) ys h k = (h.0, each_both xs ys h.1 k)
-
--- the law: in each iteration of a running that ended the iterators are values that the loops take
-pub iterations_taken : (join : Joins) (u : Program) (m : Cells) (r : Running) (d : ℕ) (end : Frame) (last : Cells) → IsWellMade u → ComesTo join u m r
-    → run join (loop_of (source_context u) r.loop r.at r.frame) r.arrays ≡ Ended end last
-    → (x : Ran) → Contains (iterations_in join (source_context u) d r) x → AreTheirs (r.around ++ loops_of_nest (nest_of d r.loop r.at).loops) x.frame.iters
-iterations_taken join u m r d end last well_made comes ended x c =
-    let w = source_context u in
-    let around = running_bounded join u m r well_made comes in
-    let did = iterations_did join w AreIterators (goes_inside join w) d r end last (running_iterators join u m r comes) ended x c in
-    did.iters (each_both r.around (loops_of_nest (nest_of d r.loop r.at).loops) around.0 (each_loop (nest_of d r.loop r.at).loops (nest_bounded as_marked d r.loop r.at around.1)))

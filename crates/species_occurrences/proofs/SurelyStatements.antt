@@ -38,10 +38,10 @@ use Rattle.species_occurrences.proofs.TakenLaws.{taken_inside, ints_inside}
 
 -- ---- what is conditional stays so
 
-abbrev Stays : Where → Reference → Type 0
+abbrev pub Stays : Where → Reference → Type 0
 Stays g r = g.conditional ≡ true → r.conditional ≡ true
 
-abbrev StmtStays : Adding → Stmt → Type 0
+abbrev pub StmtStays : Adding → Stmt → Type 0
 StmtStays adds x = (g : Where) (band : ℕ) → Each (Stays g) (stmt_references adds x g band)
 
 stays_of : (g : Where) (rs : List Reference) → Each (IsOf g) rs → Each (Stays g) rs
@@ -65,7 +65,7 @@ kept_each (suc band) path P rs h = h
 perhaps_stays : (g : Where) (rs : List Reference) → Each (Stays (perhaps g)) rs → Each (Stays g) rs
 perhaps_stays g rs h = each_weaker (Stays (perhaps g)) (Stays g) (λ r s _. s refl) rs h
 
-stmt_stays : (adds : Adding) (x : Stmt) → StmtStays adds x
+pub stmt_stays : (adds : Adding) (x : Stmt) → StmtStays adds x
 stmt_stays adds = stmt_ind (StmtStays adds) (record {
   assign = λ place a subs value. stays_from adds _ _ (fold_stmt-Assign (references_at adds) (references_inside adds) place a subs value) (λ g band. stays_of g _ (of_assignment a subs value g));
   add_to = λ place a subs value atomic. stays_from adds _ _ (fold_stmt-AddTo (references_at adds) (references_inside adds) place a subs value atomic) (λ g band. stays_of g _ (of_addition (adds a atomic) a subs value g));

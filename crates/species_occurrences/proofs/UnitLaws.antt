@@ -19,7 +19,7 @@ use Rattle.species_occurrences.proofs.LocationLaws.{unit_located}
 use Rattle.species_occurrences.proofs.NestLaws.{unconditional}
 use Rattle.species_occurrences.proofs.RegularLaws.{list_regular}
 
-all_of : {X : Type 0} (P : X → Type 0) (xs : List X) → Each P xs → All P xs
+pub all_of : {X : Type 0} (P : X → Type 0) (xs : List X) → Each P xs → All P xs
 all_of P [] h j d below = absurd (omega (arith, below))
 all_of P (x ∷ xs) h zero d below = h.0
 all_of P (x ∷ xs) h (suc j) d below = all_of P xs h.1 j d (omega (arith, below))

@@ -4,13 +4,15 @@
 //! here runs.
 #![tactic(auto)]
 
-ghost use Rattle.species_occurrences.specs.Law.{AccessesAreMade, AffineHaveTheirForms, IterationsAreTaken, RunningsAreTaken};
+ghost use Rattle.species_occurrences.specs.Law.{AccessesAreMade, AffineHaveTheirForms, IterationsAreMade, RunningsAreTaken};
 
 /// In each run of a well made unit every access inside a loop is made by one of the loop's
 /// references, affine expressions give the values of their forms, and iterators lie in their ranges.
+/// In each iteration of a nest that ends, the nest's references make the accesses, and each one that
+/// is not conditional makes one.
 pub fn law_accesses()
     ensures made { AccessesAreMade }
     ensures affine { AffineHaveTheirForms }
     ensures runnings { RunningsAreTaken }
-    ensures iterations { IterationsAreTaken }
+    ensures iterations { IterationsAreMade }
 {}
