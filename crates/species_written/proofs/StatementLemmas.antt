@@ -1,13 +1,12 @@
 -- The names that are noted in a statement, and the statements in it, are together no more than its tokens.
-use Rattle.std.proofs.Common.{◌≡◌, ◌∙◌, ap, sym, refl, subst, ℕ, suc, ◌+◌, ◌≤◌, Bool, true, false, List, [], ◌∷◌, ◌++◌, map, length, Option, Some, None, arith, length-append}
-use Rattle.std.specs.Prelude.{◌&&◌, sum, if◌then◌else◌, is_some, option_map, unwrap_or}
+use Rattle.std.proofs.Common.{◌≡◌, ap, refl, ℕ, suc, ◌+◌, ◌≤◌, Bool, true, false, List, [], ◌∷◌, ◌++◌, map, length, Option, Some, None, arith, length-append}
+use Rattle.std.specs.Prelude.{sum, if◌then◌else◌, is_some, option_map, unwrap_or}
 use Rattle.species_ast.specs.Token.{Token}
 use Rattle.species_ast.specs.Spelling.{Spelling}
 use Rattle.species_ast.specs.Signs.{assignment_sign, test_sign}
 use Rattle.species_ast.specs.declared.tree.Kind.{Kind}
 use Rattle.species_ast.specs.declared.tree.Expr.{Expr}
 use Rattle.species_ast.specs.declared.tree.Stmt.{Stmt}
-use Rattle.species_ast.specs.declared.tree.Schedule.{Schedule}
 use Rattle.species_ast.specs.declared.tree.Binary.TheVariants as binary
 use Rattle.species_ast.specs.declared.raw.RawExpr.{RawExpr}
 use Rattle.species_ast.specs.declared.raw.RawTarget.{RawTarget}
@@ -18,14 +17,13 @@ use Rattle.species_ast.specs.declared.raw.RawStmt.{RawStmt}
 use Rattle.species_ast.specs.declared.raw.RawLoop.{RawLoop}
 use Rattle.species_ast.specs.declared.raw.RawWhat.{RawWhat}
 use Rattle.species_ast.specs.declared.raw.RawWhat.TheOpen.{RawLoop-F}
-use Rattle.species_ast.specs.declared.raw.RawWhat.TheVariants as what
-use Rattle.species_ast.specs.Grammar.Words.{sign, punctuator, keyword, name, atomic}
+use Rattle.species_ast.specs.Grammar.Words.{sign, punctuator, keyword, name}
 use Rattle.species_ast.specs.Grammar.Expressions.{TypeSpecifier, Expression, Target}
-use Rattle.species_ast.specs.Grammar.Declarations.{statement, InitDeclarator, MoreDeclarators, LocalDeclaration}
-use Rattle.species_ast.specs.Grammar.Statements.{Change, Step, Header, ForHeader, SpeciesLine, ParallelLine, Statement, BlockItems, target_place}
+use Rattle.species_ast.specs.Grammar.Declarations.{InitDeclarator, MoreDeclarators, LocalDeclaration}
+use Rattle.species_ast.specs.Grammar.Statements.{Change, Step, Header, ForHeader, Statement, BlockItems, target_place}
 use Rattle.species_ast.specs.Scope.Meanings.{Local, Scope, scope_with_local, in_loop, behind, is_among, occurrence, InHeader, Declared, Occurrence}
 use Rattle.species_ast.specs.Scope.Expressions.{ExprReading, ResolvedTarget, reading, target_in}
-use Rattle.species_ast.specs.Scope.Statements.{Walk, Piece, Parts, piece, names_only, in_order, kept_local, local_piece, declarator, operated, increased, combined, change_by, change_by_one, change_piece, step_reading, loop_piece, if_piece, block_piece, stmt_piece}
+use Rattle.species_ast.specs.Scope.Statements.{Walk, Piece, Parts, piece, names_only, in_order, kept_local, local_piece, declarator, operated, increased, combined, change_by, change_by_one, change_piece, step_reading, loop_piece, stmt_piece}
 use Rattle.species_ast.specs.Scope.Written.{statements_in}
 use Rattle.species_ast.proofs.ScopeLaws.{stmt_piece-Declare, stmt_piece-Block, stmt_piece-Empty, stmt_piece-If, stmt_piece-IfElse, stmt_piece-Change, stmt_piece-Atomic, stmt_piece-Loop, parts_in}
 use Rattle.species_written.proofs.NameLemmas.{expr_fits, target_fits}
@@ -83,7 +81,7 @@ local_noted k n init s m h =
   where
     go : (inner : Scope) (value : Option ExprReading) (names : List Occurrence) → length names ≤ suc m → (c : Bool)
         → noted (if c then piece [] (names_only names) inner
-          else piece (kept_local k n value s) (record { locals = record { name = n.text; kind = k } ∷ []; names = names; loops = [] }) inner) ≤ suc m
+        else piece (kept_local k n value s) (record { locals = record { name = n.text; kind = k } ∷ []; names = names; loops = [] }) inner) ≤ suc m
     go inner value names e true = e
     go inner value names e false = e
 
@@ -115,8 +113,8 @@ declaration_fits : (x : RawStmt) (ts : List Token) → LocalDeclaration x ts →
 declaration_fits x ts (LocalDeclaration.declaration p q k l rest ks xs us t d e) =
     stmt_as _ (length (ks ++ ((xs ++ us) ++ punctuator q ";" ∷ []))) _ _ (stmt_piece-Declare p k (l ∷ rest)) (statements_in-Declare p k (l ∷ rest))
     (λ s.
-      let a = then_fits (declarator k l) (map (declarator k) rest) (length xs) (length us) (declarator_fits k l xs d) (declarators_fit k rest us e) s in
-      omega (arith, a, some_type p k ks t, length-append ks ((xs ++ us) ++ punctuator q ";" ∷ []), length-append (xs ++ us) (punctuator q ";" ∷ []), length-append xs us))
+    let a = then_fits (declarator k l) (map (declarator k) rest) (length xs) (length us) (declarator_fits k l xs d) (declarators_fit k rest us e) s in
+    omega (arith, a, some_type p k ks t, length-append ks ((xs ++ us) ++ punctuator q ";" ∷ []), length-append (xs ++ us) (punctuator q ";" ∷ []), length-append xs us))
 
 -- ---- loops
 
@@ -147,11 +145,16 @@ header_fits h hs (ForHeader.header p q r o u w b i j c x y st bs xs ys ss opt dx
     let closed = ss ++ punctuator w ")" ∷ [] in
     let limited = ys ++ (punctuator u ";" ∷ closed) in
     let started = xs ++ (punctuator r ";" ∷ name j ∷ sign o (test_sign c) ∷ limited) in
-    omega (arith, a, e, f,
+    omega (
+      arith,
+      a,
+      e,
+      f,
       length-append bs (name i ∷ punctuator q "=" ∷ started),
       length-append xs (punctuator r ";" ∷ name j ∷ sign o (test_sign c) ∷ limited),
       length-append ys (punctuator u ";" ∷ closed),
-      length-append ss (punctuator w ")" ∷ []))
+      length-append ss (punctuator w ")" ∷ []),
+    )
 
 -- the names of a loop are those of its header and its body
 loop_noted : (l : Parts) (p : ℕ) (s : Scope) →
@@ -164,12 +167,14 @@ loop_noted l p s =
     let by = l.step d in
     let heads = map (occurrence InHeader d) by.variables in
     let others = occurrence InHeader d l.tested ∷ heads in
-    omega (arith,
+    omega (
+      arith,
       mapped (occurrence InHeader d) by.variables,
       length-append heads by.names,
       length-append limit (others ++ by.names),
       length-append start (limit ++ (others ++ by.names)),
-      length-append (start ++ (limit ++ (others ++ by.names))) (l.body d).notes.names)
+      length-append (start ++ (limit ++ (others ++ by.names))) (l.body d).notes.names,
+    )
 
 -- ---- all statements
 
@@ -182,40 +187,78 @@ mutual
       stmt_as _ (length (cs ++ punctuator q ";" ∷ [])) _ _ (stmt_piece-Change p y) (statements_in-Change p y) (λ s. omega (arith, change_fits p p y cs d s, length-append cs (punctuator q ";" ∷ [])))
   stmt_fits b x ts (Statement.atomic_assignment p q n t y us ys dt dy) =
       stmt_as _ (suc (length (us ++ (punctuator p "+=" ∷ (ys ++ punctuator q ";" ∷ []))))) _ _ (stmt_piece-Atomic (target_place t) t y) (statements_in-Atomic (target_place t) t y)
-      (λ s. omega (arith, by_value (λ s. increased s (target_place t) true) t y us ys _ dt dy s,
-        length-append us (punctuator p "+=" ∷ (ys ++ punctuator q ";" ∷ [])), length-append ys (punctuator q ";" ∷ [])))
+      (λ s. omega (
+        arith,
+        by_value (λ s. increased s (target_place t) true) t y us ys _ dt dy s,
+        length-append us (punctuator p "+=" ∷ (ys ++ punctuator q ";" ∷ [])),
+        length-append ys (punctuator q ";" ∷ []),
+      ))
   stmt_fits b x ts (Statement.if_only b' p q r y body ys ss dy ds) =
       stmt_as _ (suc (length ((punctuator q "(" ∷ (ys ++ punctuator r ")" ∷ [])) ++ ss))) _ _ (stmt_piece-If p y body) (statements_in-If p y body)
       (λ s.
-        let first = (stmt_piece body s).notes.names in
-        omega (arith, expr_fits s _ y ys dy, stmt_fits b' body ss ds s,
-          length-append (reading y s).names (first ++ []), length-append first [],
-          length-append (punctuator q "(" ∷ (ys ++ punctuator r ")" ∷ [])) ss, length-append (ys ++ punctuator r ")" ∷ []) ss, length-append ys (punctuator r ")" ∷ [])))
+      let first = (stmt_piece body s).notes.names in
+      omega (
+        arith,
+        expr_fits s _ y ys dy,
+        stmt_fits b' body ss ds s,
+        length-append (reading y s).names (first ++ []),
+        length-append first [],
+        length-append (punctuator q "(" ∷ (ys ++ punctuator r ")" ∷ [])) ss,
+        length-append (ys ++ punctuator r ")" ∷ []) ss,
+        length-append ys (punctuator r ")" ∷ []),
+      ))
   stmt_fits b x ts (Statement.if_else b' p q r o y body other ys ss us dy ds dt) =
       stmt_as _ (suc (length (((punctuator q "(" ∷ (ys ++ punctuator r ")" ∷ [])) ++ ss) ++ (keyword o "else" ∷ us)))) _ _ (stmt_piece-IfElse p y body other) (statements_in-IfElse p y body other)
       (λ s.
-        let first = stmt_piece body s in
-        let d = behind s first.next in
-        let second = stmt_piece other d in
-        let test = ys ++ punctuator r ")" ∷ [] in
-        omega (arith, expr_fits s _ y ys dy, stmt_fits false body ss ds s, stmt_fits b' other us dt d,
-          length-append (reading y s).names (first.notes.names ++ second.notes.names), length-append first.notes.names second.notes.names,
-          length-append (test ++ ss) (keyword o "else" ∷ us), length-append test ss, length-append ys (punctuator r ")" ∷ [])))
+      let first = stmt_piece body s in
+      let d = behind s first.next in
+      let second = stmt_piece other d in
+      let test = ys ++ punctuator r ")" ∷ [] in
+      omega (
+        arith,
+        expr_fits s _ y ys dy,
+        stmt_fits false body ss ds s,
+        stmt_fits b' other us dt d,
+        length-append (reading y s).names (first.notes.names ++ second.notes.names),
+        length-append first.notes.names second.notes.names,
+        length-append (test ++ ss) (keyword o "else" ∷ us),
+        length-append test ss,
+        length-append ys (punctuator r ")" ∷ []),
+      ))
   stmt_fits b x ts (Statement.for b' p l m h body ls ms hs ss dl dm dh ds) =
       let raw : RawLoop-F RawWhat RawLoop RawStmt = record { line = l; parallel = m; typed = h.typed; iter = h.iter; start = h.start; tested = h.tested; test = h.test; limit = h.limit; step = h.step; body = body } in
       stmt_as _ (length (ls ++ (ms ++ (keyword p "for" ∷ (hs ++ ss))))) _ _ (stmt_piece-Loop p raw) (statements_in-Loop p raw)
       (λ s.
-        let d = in_loop h.iter s in
-        omega (arith, loop_noted (parts_in raw) p s, header_fits h hs dh s d, stmt_fits b' body ss ds d,
-          length-append ls (ms ++ (keyword p "for" ∷ (hs ++ ss))), length-append ms (keyword p "for" ∷ (hs ++ ss)), length-append hs ss))
+      let d = in_loop h.iter s in
+      omega (
+        arith,
+        loop_noted (parts_in raw) p s,
+        header_fits h hs dh s d,
+        stmt_fits b' body ss ds d,
+        length-append ls (ms ++ (keyword p "for" ∷ (hs ++ ss))),
+        length-append ms (keyword p "for" ∷ (hs ++ ss)),
+        length-append hs ss,
+      ))
 
   pub items_fit : (xs : List RawStmt) (ts : List Token) → BlockItems xs ts → ListFits xs (length ts)
   items_fit xs ts (BlockItems.end p) s = omega arith
   items_fit xs ts (BlockItems.item b x rest ss us d e) s =
       let first = stmt_piece x s in
-      omega (arith, stmt_fits b x ss d s, items_fit rest us e first.next, statements_in-list x rest,
-        length-append first.notes.names (in_order (map stmt_piece rest) first.next).notes.names, length-append ss us)
+      omega (
+        arith,
+        stmt_fits b x ss d s,
+        items_fit rest us e first.next,
+        statements_in-list x rest,
+        length-append first.notes.names (in_order (map stmt_piece rest) first.next).notes.names,
+        length-append ss us,
+      )
   items_fit xs ts (BlockItems.declaration x rest ss us d e) s =
       let first = stmt_piece x s in
-      omega (arith, declaration_fits x ss d s, items_fit rest us e first.next, statements_in-list x rest,
-        length-append first.notes.names (in_order (map stmt_piece rest) first.next).notes.names, length-append ss us)
+      omega (
+        arith,
+        declaration_fits x ss d s,
+        items_fit rest us e first.next,
+        statements_in-list x rest,
+        length-append first.notes.names (in_order (map stmt_piece rest) first.next).notes.names,
+        length-append ss us,
+      )

@@ -1,14 +1,12 @@
 -- The names that are noted in a program, and the statements in it, are together no more than its tokens.
-use Rattle.std.proofs.Common.{◌≡◌, ◌∙◌, ap, sym, refl, subst, ℕ, suc, ◌+◌, ◌≤◌, Bool, List, [], ◌∷◌, ◌++◌, map, length, arith, length-append, append_assoc}
+use Rattle.std.proofs.Common.{◌≡◌, ap, refl, ℕ, suc, ◌+◌, ◌≤◌, List, [], ◌∷◌, ◌++◌, map, length, arith, length-append}
 use Rattle.std.specs.Prelude.{sum}
 use Rattle.std.specs.List.{flat_map}
 use Rattle.species_ast.specs.Token.{Token}
-use Rattle.species_ast.specs.Spelling.{Spelling}
 use Rattle.species_ast.specs.declared.tree.Kind.{Kind}
 use Rattle.species_ast.specs.declared.raw.RawExpr.{RawExpr}
 use Rattle.species_ast.specs.declared.raw.RawArray.{RawArray}
 use Rattle.species_ast.specs.declared.raw.RawItem.{RawItem}
-use Rattle.species_ast.specs.declared.raw.RawStmt.{RawStmt}
 use Rattle.species_ast.specs.declared.raw.RawUnit.{RawUnit}
 use Rattle.species_ast.specs.Grammar.Words.{punctuator, keyword, name}
 use Rattle.species_ast.specs.Grammar.Declarations.{ArrayDeclarator, MoreArrays, GlobalDeclaration}
@@ -50,8 +48,13 @@ arrays_fit k zs ts (MoreArrays.more p a rest xs us d e) ps more m h = λ n s.
 
 global_fits : (g : RawItem) (ts : List Token) → GlobalDeclaration g ts → (ps : List ArrayParts) (more m : ℕ) → BehindFits ps more m → BehindFits (arrays_of g ++ ps) more (length ts + m)
 global_fits g ts (GlobalDeclaration.global p q k a rest ks xs us t d e) ps more m h = λ n s.
-    omega (arith, array_fits k a xs d (map (parts_of k) rest ++ ps) more (length us + m) (arrays_fit k rest us e ps more m h) n s,
-      length-append ks ((xs ++ us) ++ punctuator q ";" ∷ []), length-append (xs ++ us) (punctuator q ";" ∷ []), length-append xs us)
+    omega (
+      arith,
+      array_fits k a xs d (map (parts_of k) rest ++ ps) more (length us + m) (arrays_fit k rest us e ps more m h) n s,
+      length-append ks ((xs ++ us) ++ punctuator q ";" ∷ []),
+      length-append (xs ++ us) (punctuator q ";" ∷ []),
+      length-append xs us,
+    )
 
 -- ---- programs
 
