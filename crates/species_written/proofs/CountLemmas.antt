@@ -1,5 +1,5 @@
 -- How many statements each construct of the grammar has in it, and whether its parallel marks have depths.
-use Rattle.std.proofs.Common.{◌≡◌, ◌∙◌, ap, sym, refl, ℕ, suc, ◌+◌, Bool, true, List, ◌∷◌, map, Option, Some, None}
+use Rattle.std.proofs.Common.{◌≡◌, ◌∙◌, ap, sym, ℕ, suc, ◌+◌, Bool, true, List, ◌∷◌, map, Some, None}
 use Rattle.std.proofs.lemmas.List.Sums.{sum_by-cons}
 use Rattle.std.specs.Prelude.{◌&&◌, sum}
 use Rattle.species_ast.specs.declared.tree.Kind.{Kind}
@@ -7,7 +7,7 @@ use Rattle.species_ast.specs.declared.raw.RawExpr.{RawExpr}
 use Rattle.species_ast.specs.declared.raw.RawTarget.{RawTarget}
 use Rattle.species_ast.specs.declared.raw.RawLocal.{RawLocal}
 use Rattle.species_ast.specs.declared.raw.RawChange.{RawChange}
-use Rattle.species_ast.specs.declared.raw.RawStmt.{RawStmt, fold-RawStmt, fold-roll-RawStmt}
+use Rattle.species_ast.specs.declared.raw.RawStmt.{RawStmt, fold-roll-RawStmt}
 use Rattle.species_ast.specs.declared.raw.RawWhat.{RawWhat, roll-RawWhat, map-RawWhat, fold-RawWhat, fold-roll-RawWhat}
 use Rattle.species_ast.specs.declared.raw.RawLoop.{RawLoop, roll-RawLoop, fold-RawLoop, fold-roll-RawLoop}
 use Rattle.species_ast.specs.declared.raw.RawWhat.TheOpen.{RawWhat-F, RawLoop-F}

@@ -1,12 +1,12 @@
 -- The depth of a parallel pragma is at least 1.
-use Rattle.std.proofs.Common.{◌≡◌, refl, ℕ, ◌≤◌, Bool, true, false, List, [], ◌∷◌, Option, Some, None, arith}
+use Rattle.std.proofs.Common.{◌≡◌, refl, ℕ, Bool, true, false, List, [], ◌∷◌, Option, Some, None, arith}
 use Rattle.std.proofs.lemmas.Bool.{and_parts, le-leb, leb-true}
 use Rattle.std.specs.Prelude.{◌&&◌, nat_le, if◌then◌else◌, codes, option_and_then, option_map}
 use Rattle.species_ast.specs.declared.tree.Schedule.{Schedule}
 use Rattle.species_ast.specs.declared.token.TokenKind.{TokenKind}
 use Rattle.species_ast.specs.declared.token.TokenKind.TheVariants as kind
 use Rattle.species_ast.specs.Text.Numbers.{literal_of, or_else}
-use Rattle.species_ast.specs.Text.Parts.{Part, is_nothing, after_words}
+use Rattle.species_ast.specs.Text.Parts.{Part, after_words}
 use Rattle.species_ast.specs.Text.Pragmas.{int_of, schedule_of, deep, depth_in, depth_behind, depth_of, parallel_with, parallel_of, atomic_of, openmp_of}
 
 -- a kind of token that has a depth has one of at least 1

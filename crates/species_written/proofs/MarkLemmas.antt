@@ -1,10 +1,9 @@
 -- The parallel marks of a statement have depths, as the pragmas among its tokens do.
-use Rattle.std.proofs.Common.{◌≡◌, ◌∙◌, ap, sym, refl, ℕ, Bool, true, false, List, [], ◌∷◌, ◌++◌, map, Option, Some, None}
+use Rattle.std.proofs.Common.{◌≡◌, ◌∙◌, refl, ℕ, Bool, true, false, List, [], ◌∷◌, ◌++◌, map, Option}
 use Rattle.std.proofs.lemmas.Bool.{and_parts, and_from}
-use Rattle.std.specs.Prelude.{◌&&◌, nat_le}
+use Rattle.std.specs.Prelude.{nat_le}
 use Rattle.std.specs.List.{list_all}
 use Rattle.species_ast.specs.Token.{Token}
-use Rattle.species_ast.specs.Spelling.{Spelling}
 use Rattle.species_ast.specs.Marks.{all_true}
 use Rattle.species_ast.specs.declared.tree.Schedule.{Schedule}
 use Rattle.species_ast.specs.declared.raw.RawStmt.{RawStmt}
@@ -13,8 +12,8 @@ use Rattle.species_ast.specs.declared.raw.RawWhat.{RawWhat}
 use Rattle.species_ast.specs.declared.raw.RawWhat.TheOpen.{RawLoop-F}
 use Rattle.species_ast.specs.declared.raw.RawUnit.{RawUnit}
 use Rattle.species_ast.specs.Grammar.Words.{punctuator, keyword, name}
-use Rattle.species_ast.specs.Grammar.Declarations.{statement, LocalDeclaration}
-use Rattle.species_ast.specs.Grammar.Statements.{Header, ParallelLine, Statement, BlockItems, target_place}
+use Rattle.species_ast.specs.Grammar.Declarations.{LocalDeclaration}
+use Rattle.species_ast.specs.Grammar.Statements.{ParallelLine, Statement, BlockItems, target_place}
 use Rattle.species_ast.specs.Grammar.Units.{TranslationUnit}
 use Rattle.species_ast.specs.Scope.Written.{has_depth, has_depths}
 use Rattle.species_written.proofs.TokenLemmas.{is_deep_token}

@@ -1,15 +1,12 @@
 -- The names that are noted in an expression are no more than its tokens.
-use Rattle.std.proofs.Common.{◌≡◌, ◌∙◌, ap, sym, refl, subst, ℕ, suc, ◌+◌, ◌≤◌, List, [], ◌∷◌, ◌++◌, map, length, arith, length-append}
+use Rattle.std.proofs.Common.{◌≡◌, ◌∙◌, ap, sym, subst, ℕ, suc, ◌+◌, ◌≤◌, List, [], ◌∷◌, ◌++◌, length, arith, length-append}
 use Rattle.species_ast.specs.Token.{Token}
-use Rattle.species_ast.specs.Spelling.{Spelling}
-use Rattle.species_ast.specs.declared.tree.Value.{Value}
 use Rattle.species_ast.specs.declared.tree.Expr.TheVariants as expr
 use Rattle.species_ast.specs.declared.raw.RawExpr.{RawExpr}
 use Rattle.species_ast.specs.declared.raw.RawTarget.{RawTarget}
-use Rattle.species_ast.specs.declared.raw.RawTerm.TheVariants as term
 use Rattle.species_ast.specs.declared.raw.RawTerm.TheOpen.{RawTerm-F}
 use Rattle.species_ast.specs.Grammar.Words.{sign, punctuator}
-use Rattle.species_ast.specs.Grammar.Expressions.{Expression, Subscripts, Target, TypeSpecifier, Operation, operation, operation_sign, expression, place_of, target}
+use Rattle.species_ast.specs.Grammar.Expressions.{Expression, Subscripts, Target, Operation, operation, operation_sign, expression, place_of, target}
 use Rattle.species_ast.specs.Scope.Meanings.{Scope}
 use Rattle.species_ast.specs.Scope.Expressions.{ExprReading, ResolvedTarget, reading, target_in, names_of, taken, one_part, two_parts, unary_expr, term_at}
 use Rattle.species_ast.proofs.ScopeLaws.{reading-Number, reading-Target, reading-Paren, reading-Unary, reading-Cast, reading-Binary, reading-And, reading-Or, reading-Cond, readings, target_with, target_in-target}

@@ -1,13 +1,12 @@
 -- The names that are noted in a statement, and the statements in it, are together no more than its tokens.
-use Rattle.std.proofs.Common.{◌≡◌, ◌∙◌, ap, sym, refl, subst, ℕ, suc, ◌+◌, ◌≤◌, Bool, true, false, List, [], ◌∷◌, ◌++◌, map, length, Option, Some, None, arith, length-append}
-use Rattle.std.specs.Prelude.{◌&&◌, sum, if◌then◌else◌, is_some, option_map, unwrap_or}
+use Rattle.std.proofs.Common.{◌≡◌, ap, refl, ℕ, suc, ◌+◌, ◌≤◌, Bool, true, false, List, [], ◌∷◌, ◌++◌, map, length, Option, Some, None, arith, length-append}
+use Rattle.std.specs.Prelude.{sum, if◌then◌else◌, is_some, option_map, unwrap_or}
 use Rattle.species_ast.specs.Token.{Token}
 use Rattle.species_ast.specs.Spelling.{Spelling}
 use Rattle.species_ast.specs.Signs.{assignment_sign, test_sign}
 use Rattle.species_ast.specs.declared.tree.Kind.{Kind}
 use Rattle.species_ast.specs.declared.tree.Expr.{Expr}
 use Rattle.species_ast.specs.declared.tree.Stmt.{Stmt}
-use Rattle.species_ast.specs.declared.tree.Schedule.{Schedule}
 use Rattle.species_ast.specs.declared.tree.Binary.TheVariants as binary
 use Rattle.species_ast.specs.declared.raw.RawExpr.{RawExpr}
 use Rattle.species_ast.specs.declared.raw.RawTarget.{RawTarget}
@@ -18,14 +17,13 @@ use Rattle.species_ast.specs.declared.raw.RawStmt.{RawStmt}
 use Rattle.species_ast.specs.declared.raw.RawLoop.{RawLoop}
 use Rattle.species_ast.specs.declared.raw.RawWhat.{RawWhat}
 use Rattle.species_ast.specs.declared.raw.RawWhat.TheOpen.{RawLoop-F}
-use Rattle.species_ast.specs.declared.raw.RawWhat.TheVariants as what
-use Rattle.species_ast.specs.Grammar.Words.{sign, punctuator, keyword, name, atomic}
+use Rattle.species_ast.specs.Grammar.Words.{sign, punctuator, keyword, name}
 use Rattle.species_ast.specs.Grammar.Expressions.{TypeSpecifier, Expression, Target}
-use Rattle.species_ast.specs.Grammar.Declarations.{statement, InitDeclarator, MoreDeclarators, LocalDeclaration}
-use Rattle.species_ast.specs.Grammar.Statements.{Change, Step, Header, ForHeader, SpeciesLine, ParallelLine, Statement, BlockItems, target_place}
+use Rattle.species_ast.specs.Grammar.Declarations.{InitDeclarator, MoreDeclarators, LocalDeclaration}
+use Rattle.species_ast.specs.Grammar.Statements.{Change, Step, Header, ForHeader, Statement, BlockItems, target_place}
 use Rattle.species_ast.specs.Scope.Meanings.{Local, Scope, scope_with_local, in_loop, behind, is_among, occurrence, InHeader, Declared, Occurrence}
 use Rattle.species_ast.specs.Scope.Expressions.{ExprReading, ResolvedTarget, reading, target_in}
-use Rattle.species_ast.specs.Scope.Statements.{Walk, Piece, Parts, piece, names_only, in_order, kept_local, local_piece, declarator, operated, increased, combined, change_by, change_by_one, change_piece, step_reading, loop_piece, if_piece, block_piece, stmt_piece}
+use Rattle.species_ast.specs.Scope.Statements.{Walk, Piece, Parts, piece, names_only, in_order, kept_local, local_piece, declarator, operated, increased, combined, change_by, change_by_one, change_piece, step_reading, loop_piece, stmt_piece}
 use Rattle.species_ast.specs.Scope.Written.{statements_in}
 use Rattle.species_ast.proofs.ScopeLaws.{stmt_piece-Declare, stmt_piece-Block, stmt_piece-Empty, stmt_piece-If, stmt_piece-IfElse, stmt_piece-Change, stmt_piece-Atomic, stmt_piece-Loop, parts_in}
 use Rattle.species_written.proofs.NameLemmas.{expr_fits, target_fits}

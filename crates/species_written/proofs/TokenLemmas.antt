@@ -1,5 +1,5 @@
 -- The tokens of a text are no more than its bytes, and the parallel pragmas among them have depths.
-use Rattle.std.proofs.Common.{◌≡◌, ◌∙◌, ap, sym, refl, subst, ℕ, zero, suc, ◌+◌, ◌≤◌, Bool, true, false, List, [], ◌∷◌, length, take, drop, Option, Some, None, Result, Ok, Err, arith, length-drop}
+use Rattle.std.proofs.Common.{◌≡◌, sym, refl, subst, ℕ, zero, suc, ◌+◌, ◌≤◌, Bool, true, false, List, [], ◌∷◌, length, take, drop, Option, Some, None, Result, Ok, Err, arith, length-drop}
 use Rattle.std.proofs.lemmas.Bool.{and_parts, and_from}
 use Rattle.std.specs.Prelude.{◌&&◌, not, if◌then◌else◌, codes, filter, slice_range}
 use Rattle.std.specs.List.{list_all}
@@ -17,7 +17,7 @@ use Rattle.species_ast.specs.Text.Parts.{Part, is, is_nothing, parts_of, parts_e
 use Rattle.species_ast.specs.Text.Pragmas.{openmp_of}
 use Rattle.species_ast.specs.Text.Directives.{Form, Skipped, Read, Macro, Wrong, form_of, formless, header_len, is_gap, include_with, include_of, is_first_in, is_name, define_as, define_of, is_end, species_of, openmp_form, pragma_with, unless_backslash, pragma_of, parts_form, content_form, first_word, is_include}
 use Rattle.species_ast.specs.Text.Pieces.{Piece, Space, Lexeme, Define, Refused, line_comment, block_comment, word, number, punctuator, unless_spliced, directive, Start, Blank, LineComment, BlockComment, Letter, Digit, Hash, Other, start_of, piece_in, piece_of}
-use Rattle.species_ast.specs.Text.Stream.{TokenStream, Definition, look_up, named, define_once, in_scope, defined_by, head_behind, Cut, is_definition, grammar_tokens}
+use Rattle.species_ast.specs.Text.Stream.{TokenStream, Definition, look_up, named, define_once, in_scope, defined_by, head_behind, Cut, is_definition}
 use Rattle.species_ast.specs.Reading.{HasTokens}
 use Rattle.species_written.proofs.DepthLemmas.{is_deep, IsDeep, deep_openmp}
 

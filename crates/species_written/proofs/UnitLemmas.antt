@@ -1,14 +1,12 @@
 -- The names that are noted in a program, and the statements in it, are together no more than its tokens.
-use Rattle.std.proofs.Common.{◌≡◌, ◌∙◌, ap, sym, refl, subst, ℕ, suc, ◌+◌, ◌≤◌, Bool, List, [], ◌∷◌, ◌++◌, map, length, arith, length-append, append_assoc}
+use Rattle.std.proofs.Common.{◌≡◌, ap, refl, ℕ, suc, ◌+◌, ◌≤◌, List, [], ◌∷◌, ◌++◌, map, length, arith, length-append}
 use Rattle.std.specs.Prelude.{sum}
 use Rattle.std.specs.List.{flat_map}
 use Rattle.species_ast.specs.Token.{Token}
-use Rattle.species_ast.specs.Spelling.{Spelling}
 use Rattle.species_ast.specs.declared.tree.Kind.{Kind}
 use Rattle.species_ast.specs.declared.raw.RawExpr.{RawExpr}
 use Rattle.species_ast.specs.declared.raw.RawArray.{RawArray}
 use Rattle.species_ast.specs.declared.raw.RawItem.{RawItem}
-use Rattle.species_ast.specs.declared.raw.RawStmt.{RawStmt}
 use Rattle.species_ast.specs.declared.raw.RawUnit.{RawUnit}
 use Rattle.species_ast.specs.Grammar.Words.{punctuator, keyword, name}
 use Rattle.species_ast.specs.Grammar.Declarations.{ArrayDeclarator, MoreArrays, GlobalDeclaration}
