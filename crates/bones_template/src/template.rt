@@ -1,4 +1,4 @@
-ghost use Rattle.std.specs.Prelude.{◌≡◌, ◌≤◌, ◌∷◌, None, Some, Err, length, IfOk, OnOk, IfSome};
+ghost use Rattle.std.specs.Prelude.{◌≡◌, ◌≤◌, None, Some, Err, length, IfOk, OnOk, IfSome};
 ghost use Rattle.bones_template.specs.Holes.{hole_text, contents_of};
 ghost use Rattle.bones_template.specs.Filling.{hole_at, count_in, lacking, Becomes, filled_of};
 

@@ -1,6 +1,6 @@
 //! Forms with a coefficient for each level up to the last, within the limit.
 
-ghost use Rattle.std.specs.Prelude.{◌≡◌, ◌≤◌, ◌^◌, if◌then◌else◌, Some, None, length, IfOk, All, ◌+ℤ◌, ◌*ℤ◌, neg_ℤ};
+ghost use Rattle.std.specs.Prelude.{◌≡◌, ◌≤◌, ◌^◌, if◌then◌else◌, Some, None, length, IfOk, IfSome, All, ◌+ℤ◌, ◌*ℤ◌, neg_ℤ};
 ghost use Rattle.std.specs.List.{list_all};
 ghost use Rattle.species_ast.specs.Scope.Forms as text;
 ghost use Rattle.species_affine.specs.Limited.{IsWithin};
@@ -86,7 +86,8 @@ impl Dense {
 
     /// The constant of a constant form.
     pub(crate) fn alone(&self) -> Option<i64>
-        ensures { result ≡ (if text.is_constant self.now then Some self.now.constant else None) }
+        ensures small { IfSome result IsWithin }
+        ensures value { result ≡ (if text.is_constant self.now then Some self.now.constant else None) }
     {
         if self.is_constant() {
             Some(self.constant())

@@ -1,8 +1,9 @@
 //! The form of an expression.
 
-ghost use Rattle.std.specs.Prelude.{◌≡◌, ◌≤◌, ◌+◌, ℕ, Option, Some, None, IfOk, pos};
+ghost use Rattle.std.specs.Prelude.{◌≡◌, ◌≤◌, ◌+◌, ℕ, Option, Some, None, IfOk, IfSome, pos};
 ghost use Rattle.species_ast.specs.declared.tree.Expr.TheOpen.{Expr-F};
 ghost use Rattle.species_ast.specs.Scope.Forms as text;
+ghost use Rattle.species_affine.specs.Limited.{IsWithin};
 ghost use Rattle.species_affine.specs.Subscript.{IsSameForm, IsSubscript, HasFormNumbers};
 
 use crate::dense::Dense;
@@ -140,7 +141,8 @@ fn sparse(alloc: Global, dense: &Dense) -> Result<Form, OutOfMemory>
 
 /// The constant of an expression whose form is constant.
 pub fn constant_of(alloc: Global, expr: &Expr) -> Result<Option<i64>, OutOfMemory>
-    ensures { IfOk result (λ n. n ≡ text.constant_of expr.now) }
+    ensures value { IfOk result (λ n. n ≡ text.constant_of expr.now) }
+    ensures small { IfOk result (λ n. IfSome n IsWithin) }
 {
     match dense_of(alloc, expr)? {
         Some(dense) => Ok(dense.alone()),

@@ -207,7 +207,6 @@ fn bound(bound: &Expr) -> i128
 {
     match bound {
         Expr::Literal(Value::Int(n)) => *n as i128,
-        Expr::Literal(Value::Unsigned(n)) => *n as i128,
         _ => 0,
     }
 }

@@ -1,5 +1,5 @@
 -- Text that is added in pieces.
-use Rattle.std.proofs.Common.{◌≡◌, ◌∙◌, ◌++◌, append_assoc, append-nil, ap, sym, ℕ, suc, ◌+◌, ◌-◌, ◌<◌, ◌≤◌, List, [], ◌∷◌, arith}
+use Rattle.std.proofs.Common.{◌≡◌, ◌∙◌, ◌++◌, append_assoc, append-nil, ap, sym, ℕ, suc, ◌+◌, ◌-◌, ◌<◌, ◌≤◌, List, [], arith}
 use Rattle.std.specs.Prelude.{codes}
 use Rattle.species_drill.specs.Program.{next, nest_text, nests_text, front, program_text}
 use Rattle.species_drill.specs.Summary.{named, summary_line}

@@ -29,7 +29,6 @@ impl Model for Arrays {
 
 impl Arrays {
     /// All elements 0.
-    #[tactic(auto, using(crate::proofs::Kept::zeros_of_unit))]
     pub fn zeros(alloc: Global, unit: &Unit) -> Result<Arrays, OutOfMemory>
         ensures zeros { IfOk result (λ m. m ≡ zeros_of unit.now.arrays) }
         ensures arrays { IfOk result (λ m. AreArraysOf unit.now.arrays m) }

@@ -9,9 +9,10 @@ use std::alloc::Global;
 use std::test::Fail;
 
 // ---- programs in postfix order. Expressions: a digit, `g` for 2147483647, `h` for 4294967295u and
-// `l` for 2147483647ll; the local `a`; the iterators `i` and `j`; elements of the arrays `int A[64]`,
-// `unsigned U[4]`, `long long L[4]` and `int X[2][2]`; `+ - * / <`, `&` and `|` for `&&` and `||`,
-// `?`, and `n` for a minus before its operand. The place of a statement is that of its code.
+// `l` for 2147483647ll; the local `a`; the iterators `i`, `j` and `k`; elements of the arrays
+// `int A[64]`, `unsigned U[4]`, `long long L[4]` and `int X[n][n]`, `M[n][n]` and `O[n][n]`;
+// `+ - * / <`, `&` and `|` for `&&` and `||`, `?`, and `n` for a minus before its operand. The place of
+// a statement is that of its code.
 
 #[derive(Drop)]
 struct Stacks {
@@ -85,11 +86,13 @@ fn expr(alloc: Global, code: u8, stacks: &mut Stacks) -> Result<Expr, OutOfMemor
         b'h' => Ok(Expr::Literal(Value::Unsigned(4294967295))),
         b'l' => Ok(Expr::Literal(Value::Long(2147483647))),
         b'a' => Ok(Expr::Local(0)),
-        b'i'..=b'j' => Ok(Expr::Iter((code - b'i') as u32)),
+        b'i'..=b'k' => Ok(Expr::Iter((code - b'i') as u32)),
         b'A' => Ok(Expr::Elem(0, subs(alloc, 1, stacks)?)),
         b'U' => Ok(Expr::Elem(1, subs(alloc, 1, stacks)?)),
         b'L' => Ok(Expr::Elem(2, subs(alloc, 1, stacks)?)),
         b'X' => Ok(Expr::Elem(3, subs(alloc, 2, stacks)?)),
+        b'M' => Ok(Expr::Elem(4, subs(alloc, 2, stacks)?)),
+        b'O' => Ok(Expr::Elem(5, subs(alloc, 2, stacks)?)),
         b'+' => binary(alloc, Binary::Add, stacks),
         b'-' => binary(alloc, Binary::Sub, stacks),
         b'*' => binary(alloc, Binary::Mul, stacks),
@@ -102,8 +105,8 @@ fn expr(alloc: Global, code: u8, stacks: &mut Stacks) -> Result<Expr, OutOfMemor
     }
 }
 
-// Statements: `S`, `T`, `P` and `Y` assign to an element of A, U, L and X; `Q` adds to one of A, `R`
-// atomically to one of U; `D` and `N` declare `a` with and without initialiser, `V` sets it; `W` is
+// Statements: `S`, `T`, `P`, `Y`, `y` and `z` assign to an element of A, U, L, X, M and O; `Q` and `Z`
+// add to one of A and X, `R` atomically to one of U; `D` and `N` declare `a` with and without initialiser, `V` sets it; `W` is
 // an `if` over one statement, `K` a block of two; `E`, `F` and `H` are loops upward over one, one and
 // three statements, `E` with `<=`.
 
@@ -127,12 +130,13 @@ fn assign(
 fn add(
     alloc: Global,
     array: u32,
+    dims: u32,
     place: u32,
     atomic: bool,
     stacks: &mut Stacks,
 ) -> Result<Stmt, OutOfMemory> {
     let value = child(alloc, stacks)?;
-    let subs = subs(alloc, 1, stacks)?;
+    let subs = subs(alloc, dims, stacks)?;
     Ok(Stmt::AddTo {
         place,
         array,
@@ -200,8 +204,11 @@ fn stmt(alloc: Global, code: u8, place: u32, stacks: &mut Stacks) -> Result<Stmt
         b'T' => assign(alloc, 1, 1, place, stacks),
         b'P' => assign(alloc, 2, 1, place, stacks),
         b'Y' => assign(alloc, 3, 2, place, stacks),
-        b'Q' => add(alloc, 0, place, false, stacks),
-        b'R' => add(alloc, 1, place, true, stacks),
+        b'y' => assign(alloc, 4, 2, place, stacks),
+        b'z' => assign(alloc, 5, 2, place, stacks),
+        b'Q' => add(alloc, 0, 1, place, false, stacks),
+        b'Z' => add(alloc, 3, 2, place, false, stacks),
+        b'R' => add(alloc, 1, 1, place, true, stacks),
         b'D' => declare(alloc, place, stacks),
         b'N' => Ok(Stmt::Declare {
             place,
@@ -220,7 +227,10 @@ fn stmt(alloc: Global, code: u8, place: u32, stacks: &mut Stacks) -> Result<Stmt
 fn is_stmt(code: u8) -> bool {
     matches!(
         code,
-        b'S' | b'T'
+        b'S' | b'y'
+            | b'z'
+            | b'Z'
+            | b'T'
             | b'P'
             | b'Y'
             | b'Q'
@@ -252,8 +262,10 @@ fn body(alloc: Global, codes: &[u8]) -> Result<Items<Stmt>, OutOfMemory> {
         exprs: Items::new(alloc),
         stmts: Items::new(alloc),
     };
-    for at in 0..codes.len() {
-        push(alloc, codes[at], at as u32, &mut stacks)?;
+    let mut place: u32 = 0;
+    for code in codes {
+        push(alloc, *code, place, &mut stacks)?;
+        place = place.saturating_add(1);
     }
     Ok(stacks.stmts)
 }
@@ -267,17 +279,19 @@ fn array(alloc: Global, kind: Kind, sizes: &[u32]) -> Result<Array, OutOfMemory>
     })
 }
 
-fn arrays(alloc: Global) -> Result<Items<Array>, OutOfMemory> {
+fn arrays(alloc: Global, n: u32) -> Result<Items<Array>, OutOfMemory> {
     let mut arrays = Items::new(alloc);
     arrays.push(array(alloc, Kind::Int, &[64])?)?;
     arrays.push(array(alloc, Kind::Unsigned, &[4])?)?;
     arrays.push(array(alloc, Kind::Long, &[4])?)?;
-    arrays.push(array(alloc, Kind::Int, &[2, 2])?)?;
+    arrays.push(array(alloc, Kind::Int, &[n, n])?)?;
+    arrays.push(array(alloc, Kind::Int, &[n, n])?)?;
+    arrays.push(array(alloc, Kind::Int, &[n, n])?)?;
     Ok(arrays)
 }
 
-fn unit(alloc: Global, codes: &[u8]) -> Result<Unit, OutOfMemory> {
-    let arrays = arrays(alloc)?;
+fn unit(alloc: Global, n: u32, codes: &[u8]) -> Result<Unit, OutOfMemory> {
+    let arrays = arrays(alloc, n)?;
     let mut locals = Items::new(alloc);
     locals.push(LocalInfo {
         name: Name::from_vec(Vec::new(alloc)),
@@ -294,8 +308,8 @@ fn unit(alloc: Global, codes: &[u8]) -> Result<Unit, OutOfMemory> {
 }
 
 /// The run of a program from zeros but for `A[0]`.
-fn run(alloc: Global, codes: &[u8], first: i32) -> Result<Arrays, RunAnswer> {
-    let unit = unit(alloc, codes)?;
+fn run(alloc: Global, n: u32, codes: &[u8], first: i32) -> Result<Arrays, RunAnswer> {
+    let unit = unit(alloc, n, codes)?;
     let mut start = Arrays::zeros(alloc, &unit)?;
     start.set(0, 0, Value::Int(first));
     run_source(alloc, &unit, start)
@@ -358,7 +372,7 @@ const STOPPED: [(&[u8], Trap, u32); 12] = [
 fn where_runs_end(rt: HostRuntime) -> Result<(), Fail> {
     let alloc = rt.alloc();
     for (codes, first, array, cells) in &ENDED {
-        match run(alloc, codes, *first) {
+        match run(alloc, 2, codes, *first) {
             Err(_) => assert!(rt; false, "undefined"),
             Ok(arrays) => {
                 for at in 0..4 {
@@ -375,7 +389,7 @@ fn where_runs_end(rt: HostRuntime) -> Result<(), Fail> {
 fn where_runs_are_undefined(rt: HostRuntime) -> Result<(), Fail> {
     let alloc = rt.alloc();
     for (codes, why, place) in &STOPPED {
-        match run(alloc, codes, 2147483647) {
+        match run(alloc, 2, codes, 2147483647) {
             Ok(_) => assert!(rt; false, "defined"),
             Err(answer) => assert_eq!(rt; answer, RunAnswer::Undefined(*why, *place), "the trap"),
         }
@@ -386,7 +400,7 @@ fn where_runs_are_undefined(rt: HostRuntime) -> Result<(), Fail> {
 #[test]
 fn a_recurrence(rt: HostRuntime) -> Result<(), Fail> {
     let alloc = rt.alloc();
-    let Ok(arrays) = run(alloc, b"188*ii1-ASF", 7) else {
+    let Ok(arrays) = run(alloc, 2, b"188*ii1-ASF", 7) else {
         assert!(rt; false, "undefined");
         return Ok(());
     };
@@ -395,5 +409,33 @@ fn a_recurrence(rt: HostRuntime) -> Result<(), Fail> {
         assert_eq!(rt; copy.get(0, at), Value::Int(7), "an element");
     }
     assert_eq!(rt; copy.get(0, 64), Value::Int(0), "no element");
+    Ok(())
+}
+
+// `bench/meaning.sh` runs these two beside the same kernels in C.
+
+/// M[i][j] = i and O[i][j] = j + 1, and then the product X, of 128 rows and columns.
+#[test]
+fn a_matrix_product(rt: HostRuntime) -> Result<(), Fail> {
+    let alloc = rt.alloc();
+    let codes = b"088*2*088*2*ijiyijj1+zKFF088*2*088*2*088*2*ijikMkjO*ZFFF";
+    let Ok(arrays) = run(alloc, 128, codes, 0) else {
+        assert!(rt; false, "undefined");
+        return Ok(());
+    };
+    assert_eq!(rt; arrays.get(3, 16383), Value::Int(2080768), "X[127][127]");
+    Ok(())
+}
+
+/// M[i][j] = i, and then 64 times the mean of five neighbours in X, of 128 rows and columns.
+#[test]
+fn a_stencil(rt: HostRuntime) -> Result<(), Fail> {
+    let alloc = rt.alloc();
+    let codes = b"088*2*088*2*ijiyFF088*188*2*1-188*2*1-jkj1-kMj1+kMjk1-Mjk1+MjkM++++5/YFFF";
+    let Ok(arrays) = run(alloc, 128, codes, 0) else {
+        assert!(rt; false, "undefined");
+        return Ok(());
+    };
+    assert_eq!(rt; arrays.get(3, 12900), Value::Int(100), "X[100][100]");
     Ok(())
 }

@@ -1,6 +1,6 @@
 -- The text of an arc and of a line, piece by piece.
-use Rattle.std.proofs.Common.{◌≡◌, ◌∙◌, ap, sym, refl, ℕ, zero, suc, ◌+◌, ◌<◌, ◌≤◌, List, [], ◌∷◌, ◌++◌, map, take, length, slice_index_or, append_assoc, append-nil, Bool, true, false, nat_eq, arith}
-use Rattle.std.specs.Prelude.{codes, decimal, filter, if◌then◌else◌, not}
+use Rattle.std.proofs.Common.{◌≡◌, ◌∙◌, ap, sym, refl, ℕ, zero, suc, ◌+◌, ◌<◌, List, [], ◌∷◌, ◌++◌, map, take, length, slice_index_or, append_assoc, append-nil, Bool, true, false, nat_eq, arith}
+use Rattle.std.specs.Prelude.{codes, decimal, filter, if◌then◌else◌}
 use Rattle.std.specs.List.{flat_map}
 use Rattle.species_notation.specs.declared.parts.Part.{Part}
 use Rattle.species_notation.specs.declared.parts.Part.TheVariants as part
@@ -95,11 +95,11 @@ side_next f p xs i d begin out new empty lt e h put =
     let more = ap (λ n. map f (filter p (take n xs))) step ∙ kept f p xs i d lt e in
     record {
       text =
-        put
-        ∙ ap (λ b. out ++ text_of (arc_after b arc)) h.empty
-        ∙ ap (λ l. l ++ text_of (arc_after (nat_eq (length front) 0) arc)) h.text
-        ∙ append_assoc begin (text_of (joined_arcs front)) (text_of (arc_after (nat_eq (length front) 0) arc))
-        ∙ ap (λ l. begin ++ l) (sym (text_append (joined_arcs front) (arc_after (nat_eq (length front) 0) arc)) ∙ ap text_of (sym (joined_end front arc)) ∙ ap (λ l. text_of (joined_arcs l)) (sym more));
+          put
+          ∙ ap (λ b. out ++ text_of (arc_after b arc)) h.empty
+          ∙ ap (λ l. l ++ text_of (arc_after (nat_eq (length front) 0) arc)) h.text
+          ∙ append_assoc begin (text_of (joined_arcs front)) (text_of (arc_after (nat_eq (length front) 0) arc))
+          ∙ ap (λ l. begin ++ l) (sym (text_append (joined_arcs front) (arc_after (nat_eq (length front) 0) arc)) ∙ ap text_of (sym (joined_end front arc)) ∙ ap (λ l. text_of (joined_arcs l)) (sym more));
       empty = sym (length_end front arc) ∙ ap (λ l. nat_eq (length l) 0) (sym more);
     }
 

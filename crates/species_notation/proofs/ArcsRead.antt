@@ -34,7 +34,7 @@ unfolding int
 int_at i us =
     ap int (append_assoc (minus i.negative) (part.Number i.size ∷ []) us)
     ∙ mapped_at int_of (both leading (word number)) (minus i.negative ++ part.Number i.size ∷ us) (i.negative, i.size) us
-        (both_at leading (word number) (minus i.negative ++ part.Number i.size ∷ us) i.negative (part.Number i.size ∷ us) i.size us (leading_at i.negative (part.Number i.size ∷ us) refl) refl)
+    (both_at leading (word number) (minus i.negative ++ part.Number i.size ∷ us) i.negative (part.Number i.size ∷ us) i.size us (leading_at i.negative (part.Number i.size ∷ us) refl) refl)
 
 stride_at : (t : Option ℕ) (us : List Part) → NoColon us → maybe (sign 58) (word number) (stride_parts t ++ us) ≡ Answer.read t us
 stride_at None us e = maybe_not (sign 58) (word number) us e
@@ -47,7 +47,7 @@ span_more_at : (b : RawInt) (t : Option ℕ) (us : List Part) → NoColon us →
 span_more_at b t us e =
     ap (λ l. skip (sign 58) high_and_stride (part.Sign 58 ∷ l)) (append_assoc (int_parts b) (stride_parts t) us)
     ∙ skip_at (sign 58) high_and_stride (part.Sign 58 ∷ (int_parts b ++ (stride_parts t ++ us))) tt (int_parts b ++ (stride_parts t ++ us)) (b, t) us refl
-        (both_at int (maybe (sign 58) (word number)) (int_parts b ++ (stride_parts t ++ us)) b (stride_parts t ++ us) t us (int_at b (stride_parts t ++ us)) (stride_at t us e))
+    (both_at int (maybe (sign 58) (word number)) (int_parts b ++ (stride_parts t ++ us)) b (stride_parts t ++ us) t us (int_at b (stride_parts t ++ us)) (stride_at t us e))
 
 span_from_at : (negative : Bool) (n : ℕ) (b : RawInt) (t : Option ℕ) (us : List Part) → NoColon us
     → span_from negative (part.Number n ∷ part.Sign 58 ∷ ((int_parts b ++ stride_parts t) ++ us)) ≡ Answer.read (span_of negative (n, (b, t))) us
@@ -55,7 +55,7 @@ unfolding span_from
 span_from_at negative n b t us e =
     let more : List Part = part.Sign 58 ∷ ((int_parts b ++ stride_parts t) ++ us) in
     mapped_at (span_of negative) (both (word number) (skip (sign 58) high_and_stride)) (part.Number n ∷ more) (n, (b, t)) us
-      (both_at (word number) (skip (sign 58) high_and_stride) (part.Number n ∷ more) n more (b, t) us refl (span_more_at b t us e))
+    (both_at (word number) (skip (sign 58) high_and_stride) (part.Number n ∷ more) n more (b, t) us refl (span_more_at b t us e))
 
 span_at : (negative : Bool) (n : ℕ) (b : RawInt) (t : Option ℕ) (us : List Part) → OffsetEnd us
     → offset (offset_parts (span_of negative (n, (b, t))) ++ us) ≡ Answer.read (span_of negative (n, (b, t))) us
@@ -78,9 +78,9 @@ range_at r us e =
     let more : List Part = form_parts r.high ++ us in
     ap range (append_assoc (form_parts r.low) (part.Sign 58 ∷ form_parts r.high) us)
     ∙ mapped_at range_of (both form (skip (sign 58) form)) (form_parts r.low ++ part.Sign 58 ∷ more) (r.low, r.high) us
-        (both_at form (skip (sign 58) form) (form_parts r.low ++ part.Sign 58 ∷ more) r.low (part.Sign 58 ∷ more) r.high us
-          (form_at r.low (part.Sign 58 ∷ more) (refl, refl))
-          (skip_at (sign 58) form (part.Sign 58 ∷ more) tt more r.high us refl (form_at r.high us e)))
+    (both_at form (skip (sign 58) form) (form_parts r.low ++ part.Sign 58 ∷ more) r.low (part.Sign 58 ∷ more) r.high us
+    (form_at r.low (part.Sign 58 ∷ more) (refl, refl))
+    (skip_at (sign 58) form (part.Sign 58 ∷ more) tt more r.high us refl (form_at r.high us e)))
 
 -- ---- lists in brackets, of one or more
 
@@ -92,19 +92,19 @@ form_list : (l : List RawForm) (us : List Part) → IsFilled l → ends (listed 
 form_list [] us f = absurd f
 form_list (x ∷ xs) us f =
     ends_at (listed 44 form) (sign 41) (listed_parts 44 form_parts (x ∷ xs) ++ part.Sign 41 ∷ us) (x ∷ xs) (part.Sign 41 ∷ us) tt us
-      (listed_at 44 form form_parts FormEnd (λ x ts. (refl, refl)) form_at (part.Sign 41 ∷ us) refl (refl, refl) x xs) refl
+    (listed_at 44 form form_parts FormEnd (λ x ts. (refl, refl)) form_at (part.Sign 41 ∷ us) refl (refl, refl) x xs) refl
 
 offset_list : (l : List RawOffset) (us : List Part) → IsFilled l → ends (listed 44 offset) (sign 41) (listed_parts 44 offset_parts l ++ part.Sign 41 ∷ us) ≡ Answer.read l us
 offset_list [] us f = absurd f
 offset_list (x ∷ xs) us f =
     ends_at (listed 44 offset) (sign 41) (listed_parts 44 offset_parts (x ∷ xs) ++ part.Sign 41 ∷ us) (x ∷ xs) (part.Sign 41 ∷ us) tt us
-      (listed_at 44 offset offset_parts OffsetEnd (λ x ts. (refl, refl)) offset_at (part.Sign 41 ∷ us) refl (refl, refl) x xs) refl
+    (listed_at 44 offset offset_parts OffsetEnd (λ x ts. (refl, refl)) offset_at (part.Sign 41 ∷ us) refl (refl, refl) x xs) refl
 
 range_list : (l : List RawRange) (us : List Part) → IsFilled l → ends (listed 44 range) (sign 93) (listed_parts 44 range_parts l ++ part.Sign 93 ∷ us) ≡ Answer.read l us
 range_list [] us f = absurd f
 range_list (x ∷ xs) us f =
     ends_at (listed 44 range) (sign 93) (listed_parts 44 range_parts (x ∷ xs) ++ part.Sign 93 ∷ us) (x ∷ xs) (part.Sign 93 ∷ us) tt us
-      (listed_at 44 range range_parts FormEnd (λ x ts. (refl, refl)) range_at (part.Sign 93 ∷ us) refl (refl, refl) x xs) refl
+    (listed_at 44 range range_parts FormEnd (λ x ts. (refl, refl)) range_at (part.Sign 93 ∷ us) refl (refl, refl) x xs) refl
 
 ranges_at : (l : List RawRange) (us : List Part) → IsFilled l → ranges (part.Sign 91 ∷ (listed_parts 44 range_parts l ++ part.Sign 93 ∷ us)) ≡ Answer.read l us
 unfolding ranges
@@ -129,7 +129,7 @@ offsets_at (Some l) us f e =
     let more : List Part = listed_parts 44 offset_parts l ++ part.Sign 41 ∷ us in
     ap (λ z. maybe (sign 40) (ends (listed 44 offset) (sign 41)) (part.Sign 40 ∷ z)) (append_assoc (listed_parts 44 offset_parts l) (part.Sign 41 ∷ []) us)
     ∙ maybe_then (sign 40) (ends (listed 44 offset) (sign 41)) (part.Sign 40 ∷ more) l us refl
-        (skip_at (sign 40) (ends (listed 44 offset) (sign 41)) (part.Sign 40 ∷ more) tt more l us refl (offset_list l us f))
+    (skip_at (sign 40) (ends (listed 44 offset) (sign 41)) (part.Sign 40 ∷ more) tt more l us refl (offset_list l us f))
 
 -- Each of the arc's lists has something in it.
 pub record IsArcFilled (a : RawArc) : Type 0 where
@@ -195,7 +195,7 @@ module _ (a : RawArc) (us : List Part) where
   reads_word : Filled → from_word (part.Name (word_text a.word) ∷ behind_word) ≡ Answer.read (a.word, (a.offsets, (a.forms, a.exact))) us
   reads_word f =
       both_at (word arc_words) (both offsets from_at) (part.Name (word_text a.word) ∷ behind_word) a.word behind_word (a.offsets, (a.forms, a.exact)) us (word_at a.word behind_word)
-        (both_at offsets from_at behind_word a.offsets behind_offsets (a.forms, a.exact) us (offsets_at a.offsets behind_offsets f.offsets refl) (reads_at f))
+      (both_at offsets from_at behind_word a.offsets behind_offsets (a.forms, a.exact) us (offsets_at a.offsets behind_offsets f.offsets refl) (reads_at f))
 
   abbrev from_ranges : Reader Part (List RawRange × (ArcWord × (Option (List RawOffset) × (List RawForm × Bool))))
   from_ranges = both ranges (skip (sign 124) from_word)
@@ -203,13 +203,13 @@ module _ (a : RawArc) (us : List Part) where
   reads_ranges : Filled → from_ranges behind_name ≡ Answer.read (a.ranges, (a.word, (a.offsets, (a.forms, a.exact)))) us
   reads_ranges f =
       both_at ranges (skip (sign 124) from_word) behind_name a.ranges behind_ranges (a.word, (a.offsets, (a.forms, a.exact))) us (ranges_at a.ranges behind_ranges f.ranges)
-        (skip_at (sign 124) from_word behind_ranges tt (part.Name (word_text a.word) ∷ behind_word) (a.word, (a.offsets, (a.forms, a.exact))) us refl (reads_word f))
+      (skip_at (sign 124) from_word behind_ranges tt (part.Name (word_text a.word) ∷ behind_word) (a.word, (a.offsets, (a.forms, a.exact))) us refl (reads_word f))
 
   pub reads_arc : Filled → arc (part.Name a.name ∷ behind_name) ≡ Answer.read a us
   unfolding arc
   reads_arc f =
       mapped_at arc_of (both (word name) from_ranges) (part.Name a.name ∷ behind_name) (a.name, (a.ranges, (a.word, (a.offsets, (a.forms, a.exact))))) us
-        (both_at (word name) from_ranges (part.Name a.name ∷ behind_name) a.name behind_name (a.ranges, (a.word, (a.offsets, (a.forms, a.exact)))) us refl (reads_ranges f))
+      (both_at (word name) from_ranges (part.Name a.name ∷ behind_name) a.name behind_name (a.ranges, (a.word, (a.offsets, (a.forms, a.exact)))) us refl (reads_ranges f))
 
 abbrev pub AreFilled : List RawArc → Type 0
 AreFilled arcs = Each IsArcFilled arcs
@@ -254,9 +254,9 @@ more_arcs_at (suc m) (a ∷ more) us f e lt =
     let rest : List Part = flat_map (behind 94 arc_parts) more ++ us in
     ap (many (suc m) (is_of (sign 94)) (skip (sign 94) arc)) (append_assoc (behind 94 arc_parts a) (flat_map (behind 94 arc_parts) more) us)
     ∙ mapped_at cons_of (both (skip (sign 94) arc) (many m (is_of (sign 94)) (skip (sign 94) arc))) (part.Sign 94 ∷ (arc_parts a ++ rest)) (a, more) us
-        (both_at (skip (sign 94) arc) (many m (is_of (sign 94)) (skip (sign 94) arc)) (part.Sign 94 ∷ (arc_parts a ++ rest)) a rest more us
-          (skip_at (sign 94) arc (part.Sign 94 ∷ (arc_parts a ++ rest)) tt (arc_parts a ++ rest) a rest refl (arc_reads a rest f.0))
-          (more_arcs_at m more us f.1 e (omega (arith, lt))))
+    (both_at (skip (sign 94) arc) (many m (is_of (sign 94)) (skip (sign 94) arc)) (part.Sign 94 ∷ (arc_parts a ++ rest)) a rest more us
+    (skip_at (sign 94) arc (part.Sign 94 ∷ (arc_parts a ++ rest)) tt (arc_parts a ++ rest) a rest refl (arc_reads a rest f.0))
+    (more_arcs_at m more us f.1 e (omega (arith, lt))))
 
 count : (more : List RawArc) (us : List Part) → length more ≤ length (flat_map (behind 94 arc_parts) more ++ us)
 count [] us = omega arith
@@ -268,8 +268,8 @@ arcs_at a more us f e =
     let rest : List Part = flat_map (behind 94 arc_parts) more ++ us in
     ap arcs (append_assoc (arc_parts a) (flat_map (behind 94 arc_parts) more) us)
     ∙ mapped_at cons_of (both arc (more_of 94 arc)) (arc_parts a ++ rest) (a, more) us
-        (both_at arc (more_of 94 arc) (arc_parts a ++ rest) a rest more us (arc_reads a rest f.0)
-          (more_arcs_at (suc (length rest)) more us f.1 e (omega (arith, count more us))))
+    (both_at arc (more_of 94 arc) (arc_parts a ++ rest) a rest more us (arc_reads a rest f.0)
+    (more_arcs_at (suc (length rest)) more us f.1 e (omega (arith, count more us))))
 
 pub side_at : (l : List RawArc) (us : List Part) → AreFilled l → starts (is_of (sign 94)) us ≡ false → NoBracket us → side (side_parts l ++ us) ≡ Answer.read l us
 unfolding side
@@ -308,8 +308,8 @@ line_at (line.Sides l r) us f e k =
     ap line_reader (append_assoc (side_parts l) (part.Arrow ∷ side_parts r) us)
     ∙ alone_else (codes "sequential") one_sequential both_sides (side_parts l ++ part.Arrow ∷ more) (no_sequential l (part.Arrow ∷ more))
     ∙ mapped_at sides_of (both side (skip arrow side)) (side_parts l ++ part.Arrow ∷ more) (l, r) us
-        (both_at side (skip arrow side) (side_parts l ++ part.Arrow ∷ more) l (part.Arrow ∷ more) r us (side_at l (part.Arrow ∷ more) f.0 refl refl)
-          (skip_at arrow side (part.Arrow ∷ more) tt more r us refl (side_at r us f.1 e k)))
+    (both_at side (skip arrow side) (side_parts l ++ part.Arrow ∷ more) l (part.Arrow ∷ more) r us (side_at l (part.Arrow ∷ more) f.0 refl refl)
+    (skip_at arrow side (part.Arrow ∷ more) tt more r us refl (side_at r us f.1 e k)))
 
 pub raw_line_at : (l : RawLine) → IsLineFilled l → raw_line (line_parts l) ≡ Some l
 raw_line_at l f = ap (λ a. answered (a >>= ended)) (ap line_reader (sym (append-nil (line_parts l))) ∙ line_at l [] f refl refl)

@@ -63,7 +63,7 @@ module _ {Tok A : Type 0} (c : Tok → Bool) (r : Reader Tok A) (parts : A → L
       ap (many (suc m) c r) (append_assoc (parts x) (flat_map parts xs) rest)
       ∙ choose_then c (mapped cons_of (both r (many m c r))) (nothing []) (parts x ++ (flat_map parts xs ++ rest)) (begin x (flat_map parts xs ++ rest))
       ∙ mapped_at cons_of (both r (many m c r)) (parts x ++ (flat_map parts xs ++ rest)) (x, xs) rest
-          (both_at r (many m c r) (parts x ++ (flat_map parts xs ++ rest)) x (flat_map parts xs ++ rest) xs rest (reads x (flat_map parts xs ++ rest) (ends_on xs)) (many_at m xs less))
+      (both_at r (many m c r) (parts x ++ (flat_map parts xs ++ rest)) x (flat_map parts xs ++ rest) xs rest (reads x (flat_map parts xs ++ rest) (ends_on xs)) (many_at m xs less))
 
   count : (xs : List A) → length xs ≤ length (flat_map parts xs ++ rest)
   count [] = omega arith
@@ -101,7 +101,7 @@ module _ {A : Type 0} (n : ℕ) (r : Reader Part A) (parts : A → List Part) (E
   pub both_more_at : (x : A) (xs : List A) → both r (more_of n r) (parts x ++ (flat_map (behind n parts) xs ++ rest)) ≡ Answer.read (x, xs) rest
   both_more_at x xs =
       both_at r (more_of n r) (parts x ++ (flat_map (behind n parts) xs ++ rest)) x (flat_map (behind n parts) xs ++ rest) xs rest
-          (reads x (flat_map (behind n parts) xs ++ rest) (first_end xs)) (more_at xs)
+      (reads x (flat_map (behind n parts) xs ++ rest) (first_end xs)) (more_at xs)
 
   pub listed_at : (x : A) (xs : List A) → listed n r (listed_parts n parts (x ∷ xs) ++ rest) ≡ Answer.read (x ∷ xs) rest
   listed_at x xs =

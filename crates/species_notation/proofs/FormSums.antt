@@ -90,7 +90,7 @@ module _ (iters : List (List ℕ)) (apart : Apart iters) where
       ap (λ l. option_and_then (add_all more) (limited (record { constant = c; names = l }))) raiseded
       ∙ ap (option_and_then (add_all more)) (limited_fits c (es ++ (w, t.coefficient) ∷ []) f (fit_append es (w, t.coefficient) a h.3))
       ∙ terms_added ts (t.level + 1) c (es ++ (w, t.coefficient) ∷ []) h.4 f (fit_append es (w, t.coefficient) a h.3)
-          (λ j le lt. not_in_append (name_at iters j) es (w, t.coefficient) (n j (omega (arith, le, h.0)) lt) (apart t.level j (omega (arith, le)) lt).1)
+      (λ j le lt. not_in_append (name_at iters j) es (w, t.coefficient) (n j (omega (arith, le, h.0)) lt) (apart t.level j (omega (arith, le)) lt).1)
       ∙ ap (λ l. Some (record { constant = c; names = l })) (append_assoc es ((w, t.coefficient) ∷ []) (map entry_of ts))
 
   all_fit : (ts : List Term) (k : ℕ) → Readable (length iters) k ts → AllFit (map entry_of ts)

@@ -74,9 +74,10 @@ module _ (iters : List (List ℕ)) (apart : Apart iters) where
 -- all names are along
 along_all : (front ws : List (List ℕ)) (iters : List (List ℕ)) (apart : Apart iters) → iters ≡ front ++ ws → Along iters apart (length front) ws
 along_all front [] iters apart e = sym (ap length (e ∙ append-nil front))
-along_all front (w ∷ ws) iters apart e =
-    (ap (λ l. slice_index_or l (length front) []) e ∙ here_at front w ws,
-     subst (λ z. Along iters apart z ws) (length_after front w) (along_all (front ++ w ∷ []) ws iters apart (e ∙ sym (append_assoc front (w ∷ []) ws))))
+along_all front (w ∷ ws) iters apart e = (
+  ap (λ l. slice_index_or l (length front) []) e ∙ here_at front w ws,
+  subst (λ z. Along iters apart z ws) (length_after front w) (along_all (front ++ w ∷ []) ws iters apart (e ∙ sym (append_assoc front (w ∷ []) ws))),
+)
   where
     here_at : (front : List (List ℕ)) (w : List ℕ) (ws : List (List ℕ)) → slice_index_or (front ++ w ∷ ws) (length front) [] ≡ w
     here_at [] w ws = refl

@@ -55,7 +55,7 @@ first_at s us e =
     let rest : List Part = product_parts s.number s.name ++ us in
     ap first_summand (append_assoc (minus s.negative) (product_parts s.number s.name) us)
     ∙ mapped_at summand_of (both leading product) (minus s.negative ++ rest) (s.negative, (s.number, s.name)) us
-        (both_at leading product (minus s.negative ++ rest) s.negative rest (s.number, s.name) us (leading_at s.negative rest (no_minus s.number s.name us)) (product_at s.number s.name us e))
+    (both_at leading product (minus s.negative ++ rest) s.negative rest (s.number, s.name) us (leading_at s.negative rest (no_minus s.number s.name us)) (product_at s.number s.name us e))
 
 next_with : (b : Bool) (n : ℕ) (o : Option (List ℕ)) (us : List Part) → NoTimes us
     → next_summand (next_parts (record { negative = b; number = n; name = o }) ++ us) ≡ Answer.read (record { negative = b; number = n; name = o }) us
@@ -63,11 +63,11 @@ unfolding next_summand
 next_with true n o us e =
     let rest : List Part = product_parts n o ++ us in
     mapped_at summand_of (both (word plus_or_minus) product) (part.Sign 45 ∷ rest) (true, (n, o)) us
-      (both_at (word plus_or_minus) product (part.Sign 45 ∷ rest) true rest (n, o) us refl (product_at n o us e))
+    (both_at (word plus_or_minus) product (part.Sign 45 ∷ rest) true rest (n, o) us refl (product_at n o us e))
 next_with false n o us e =
     let rest : List Part = product_parts n o ++ us in
     mapped_at summand_of (both (word plus_or_minus) product) (part.Sign 43 ∷ rest) (false, (n, o)) us
-      (both_at (word plus_or_minus) product (part.Sign 43 ∷ rest) false rest (n, o) us refl (product_at n o us e))
+    (both_at (word plus_or_minus) product (part.Sign 43 ∷ rest) false rest (n, o) us refl (product_at n o us e))
 
 next_at : (s : Summand) (us : List Part) → NoTimes us → next_summand (next_parts s ++ us) ≡ Answer.read s us
 next_at s us e = next_with s.negative s.number s.name us e
@@ -96,6 +96,6 @@ form_at f us e =
     let more : List Part = flat_map next_parts f.more ++ us in
     ap form (append_assoc (first_parts f.first) (flat_map next_parts f.more) us)
     ∙ mapped_at form_of (both first_summand more_summands) (first_parts f.first ++ more) (f.first, f.more) us
-        (both_at first_summand more_summands (first_parts f.first ++ more) f.first more f.more us
-          (first_at f.first more (summands_end f.more us e))
-          (repeated_at (is_of plus_or_minus) next_summand next_parts NoTimes next_starts next_ends next_at (λ s. omega arith) us e.1 e.0 f.more))
+    (both_at first_summand more_summands (first_parts f.first ++ more) f.first more f.more us
+    (first_at f.first more (summands_end f.more us e))
+    (repeated_at (is_of plus_or_minus) next_summand next_parts NoTimes next_starts next_ends next_at (λ s. omega arith) us e.1 e.0 f.more))

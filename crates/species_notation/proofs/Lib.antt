@@ -13,3 +13,5 @@ pub mod ReasonsBack
 pub mod ReadBack
 pub mod Texts
 pub mod ArcTexts
+pub mod Turns
+pub mod Totals

@@ -125,8 +125,9 @@ module _ (names : Names) (arrays_named : AllNames names.arrays) (iters_named : A
       → option_and_then (given_line names) (option_and_then raw_line (parts_of (text_of (line_pieces (written_sides names arcs))))) ≡ Some (record { arcs = map arc_as_given (reads_of arcs) ++ map arc_as_given (others_of arcs) })
   sides_back arrays_apart iters_apart arcs l r =
       ap (λ o. option_and_then (given_line names) (option_and_then raw_line o))
-        (text_back (map (written_arc names) (reads_of arcs)) (map (written_arc names) (others_of arcs)) (side_text false (reads_of arcs) l) (side_text true (others_of arcs) r))
-      ∙ ap (option_and_then (given_line names)) (raw_line_at (written_sides names arcs)
-          (each_mapped (ArcFine names false) IsArcFilled (written_arc names) (arc_filled names false) (reads_of arcs) l,
-           each_mapped (ArcFine names true) IsArcFilled (written_arc names) (arc_filled names true) (others_of arcs) r))
+      (text_back (map (written_arc names) (reads_of arcs)) (map (written_arc names) (others_of arcs)) (side_text false (reads_of arcs) l) (side_text true (others_of arcs) r))
+      ∙ ap (option_and_then (given_line names)) (raw_line_at (written_sides names arcs) (
+        each_mapped (ArcFine names false) IsArcFilled (written_arc names) (arc_filled names false) (reads_of arcs) l,
+        each_mapped (ArcFine names true) IsArcFilled (written_arc names) (arc_filled names true) (others_of arcs) r,
+      ))
       ∙ line_back names arrays_apart iters_apart arcs l r

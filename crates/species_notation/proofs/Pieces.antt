@@ -133,8 +133,8 @@ tails P parts k (x ∷ xs) e = tail_tail (parts x) (flat_map parts xs) (k x e.0)
 form_chunk : (f : RawForm) → RawFormFine f → Chunk (form_parts f)
 form_chunk f h =
     chunk_tail (first_parts f.first) (flat_map next_parts f.more)
-      (free_chunk (minus f.first.negative) (product_parts f.first.number f.first.name) (minus_free f.first.negative) (product_chunk f.first.number f.first.name h.0.0 h.0.1))
-      (tails SummandFine next_parts next_tail f.more h.1)
+    (free_chunk (minus f.first.negative) (product_parts f.first.number f.first.name) (minus_free f.first.negative) (product_chunk f.first.number f.first.name h.0.0 h.0.1))
+    (tails SummandFine next_parts next_tail f.more h.1)
 
 list_chunk : {A : Type 0} (n : ℕ) (P : A → Type 0) (parts : A → List Part) → IsSign n → ((x : A) → P x → Chunk (parts x)) → (l : List A) → Each P l → Chunk (listed_parts n parts l)
 list_chunk n P parts s k [] h = no_parts
@@ -152,7 +152,7 @@ offset_chunk : (o : RawOffset) → OffsetFine o → Chunk (offset_parts o)
 offset_chunk None h = sign_chunk 45 [] IsSign.minus no_parts
 offset_chunk (Some s) h =
     chunk_tail (int_parts s.low) (part.Sign 58 ∷ (int_parts s.high ++ stride_parts s.stride)) (int_chunk s.low h.0)
-      (sign_tail 58 (int_parts s.high ++ stride_parts s.stride) IsSign.colon (chunk_tail (int_parts s.high) (stride_parts s.stride) (int_chunk s.high h.1) (stride_tail s.stride h.2)))
+    (sign_tail 58 (int_parts s.high ++ stride_parts s.stride) IsSign.colon (chunk_tail (int_parts s.high) (stride_parts s.stride) (int_chunk s.high h.1) (stride_tail s.stride h.2)))
 
 range_chunk : (r : RawRange) → RangeFine r → Chunk (range_parts r)
 range_chunk r h = chunk_tail (form_parts r.low) (part.Sign 58 ∷ form_parts r.high) (form_chunk r.low h.0) (sign_tail 58 (form_parts r.high) IsSign.colon (form_chunk r.high h.1))
@@ -161,7 +161,7 @@ offsets_tail : (o : Option (List RawOffset)) → OffsetsFine o → Tail (offsets
 offsets_tail None h = λ qs f e. (f, e)
 offsets_tail (Some l) h =
     sign_tail 40 (listed_parts 44 offset_parts l ++ part.Sign 41 ∷ []) IsSign.paren
-      (chunk_tail (listed_parts 44 offset_parts l) (part.Sign 41 ∷ []) (list_chunk 44 OffsetFine offset_parts IsSign.comma offset_chunk l h) (sign_tail 41 [] IsSign.close no_parts))
+    (chunk_tail (listed_parts 44 offset_parts l) (part.Sign 41 ∷ []) (list_chunk 44 OffsetFine offset_parts IsSign.comma offset_chunk l h) (sign_tail 41 [] IsSign.close no_parts))
 
 word_name : (w : Word) → is_name (word_text w) ≡ true
 word_name word.Element = refl
@@ -177,12 +177,12 @@ mark_name false = refl
 front_chunk : (a : RawArc) → RawArcFine a → Chunk (arc_front a)
 front_chunk a h =
     word_then a.name (part.Sign 91 ∷ inner a) h.name
-      (sign_tail 91 (inner a) IsSign.bracket
-        (chunk_tail (listed_parts 44 range_parts a.ranges) (part.Sign 93 ∷ part.Sign 124 ∷ part.Name (word_text a.word) ∷ offsets_parts a.offsets)
-          (list_chunk 44 RangeFine range_parts IsSign.comma range_chunk a.ranges h.ranges)
-          (sign_tail 93 (part.Sign 124 ∷ part.Name (word_text a.word) ∷ offsets_parts a.offsets) IsSign.shut
-            (sign_chunk 124 (part.Name (word_text a.word) ∷ offsets_parts a.offsets) IsSign.bar
-              (word_then (word_text a.word) (offsets_parts a.offsets) (word_name a.word) (offsets_tail a.offsets h.offsets))))))
+    (sign_tail 91 (inner a) IsSign.bracket
+    (chunk_tail (listed_parts 44 range_parts a.ranges) (part.Sign 93 ∷ part.Sign 124 ∷ part.Name (word_text a.word) ∷ offsets_parts a.offsets)
+    (list_chunk 44 RangeFine range_parts IsSign.comma range_chunk a.ranges h.ranges)
+    (sign_tail 93 (part.Sign 124 ∷ part.Name (word_text a.word) ∷ offsets_parts a.offsets) IsSign.shut
+    (sign_chunk 124 (part.Name (word_text a.word) ∷ offsets_parts a.offsets) IsSign.bar
+    (word_then (word_text a.word) (offsets_parts a.offsets) (word_name a.word) (offsets_tail a.offsets h.offsets))))))
   where
     inner : RawArc → List Part
     inner a = listed_parts 44 range_parts a.ranges ++ part.Sign 93 ∷ part.Sign 124 ∷ part.Name (word_text a.word) ∷ offsets_parts a.offsets
@@ -190,7 +190,7 @@ front_chunk a h =
 at_chunk : (a : RawArc) → RawArcFine a → Chunk (arc_forms a)
 at_chunk a h =
     sign_chunk 40 (listed_parts 44 form_parts a.forms ++ part.Sign 41 ∷ []) IsSign.paren
-      (chunk_tail (listed_parts 44 form_parts a.forms) (part.Sign 41 ∷ []) (list_chunk 44 RawFormFine form_parts IsSign.comma form_chunk a.forms h.forms) (sign_tail 41 [] IsSign.close no_parts))
+    (chunk_tail (listed_parts 44 form_parts a.forms) (part.Sign 41 ∷ []) (list_chunk 44 RawFormFine form_parts IsSign.comma form_chunk a.forms h.forms) (sign_tail 41 [] IsSign.close no_parts))
 
 -- ---- pieces of arcs and lines
 
@@ -207,9 +207,9 @@ arc_fine a h qs f e =
     let tail_fine : PiecesFine tail = (tt, ((refl, λ k. refl), (tt, back_fine))) in
     let near : List Piece = Space ∷ Solid (part.Name (mark_text a.exact)) ∷ [] in
     subst PiecesFine
-      (sym (append_assoc (map Solid (arc_front a)) (spaced (part.Name (codes "at")) ++ (map Solid (arc_forms a) ++ near)) qs
-        ∙ ap (λ l. map Solid (arc_front a) ++ Space ∷ Solid (part.Name (codes "at")) ∷ Space ∷ l) (append_assoc (map Solid (arc_forms a)) near qs)))
-      (front_chunk a h tail tail_fine refl)
+    (sym (append_assoc (map Solid (arc_front a)) (spaced (part.Name (codes "at")) ++ (map Solid (arc_forms a) ++ near)) qs
+    ∙ ap (λ l. map Solid (arc_front a) ++ Space ∷ Solid (part.Name (codes "at")) ∷ Space ∷ l) (append_assoc (map Solid (arc_forms a)) near qs)))
+    (front_chunk a h tail tail_fine refl)
 
 more_fine : (az : List RawArc) → Each RawArcFine az → (qs : List Piece) → PiecesFine qs → begins_apart qs ≡ true → PiecesFine (flat_map next_arc az ++ qs) × (begins_apart (flat_map next_arc az ++ qs) ≡ true)
 more_fine [] h qs f e = (f, e)

@@ -61,9 +61,13 @@ fits_of z h = le-leb (unsigned_abs z) most h
 
 terms_of : (top k : ℕ) (ts : List Term) → IsRisingFrom k ts → All (λ t. t.level < top) ts → All (λ t. unsigned_abs t.coefficient ≤ 2 ^ 70) ts → Readable top k ts
 terms_of top k [] r n c = tt
-terms_of top k (t ∷ ts) r n c =
-    (r.0, n 0 t (omega arith), r.1, fits_of t.coefficient (c 0 t (omega arith)),
-     terms_of top (t.level + 1) ts r.2 (λ j d l. n (suc j) d (omega (arith, l))) (λ j d l. c (suc j) d (omega (arith, l))))
+terms_of top k (t ∷ ts) r n c = (
+  r.0,
+  n 0 t (omega arith),
+  r.1,
+  fits_of t.coefficient (c 0 t (omega arith)),
+  terms_of top (t.level + 1) ts r.2 (λ j d l. n (suc j) d (omega (arith, l))) (λ j d l. c (suc j) d (omega (arith, l))),
+)
 
 form_of : (iters : List (List ℕ)) (f : Form) → IsReadable iters f → FormFine iters f
 form_of iters f h = (terms_of (length iters) 0 f.terms h.rising h.named h.coefficients, fits_of f.constant h.constant)
@@ -156,9 +160,9 @@ parallel_back names nest arrays iters different_arrays different_iters arcs none
     let each = each_of (IsReadableArc names) nest.arcs arcs in
     ap (λ r. option_and_then (given_line names) (option_and_then raw_line (parts_of (text_of (line_pieces (line_for names nest.arcs r)))))) none
     ∙ sides_back names (each_of (λ w. is_name w ≡ true) names.arrays arrays) (each_of (λ w. is_name w ≡ true) names.iters iters) (apart_of names.arrays different_arrays) (apart_of names.iters different_iters) nest.arcs
-        (filtered names false (is_on true) (λ a e. dir_left a.dir e) nest.arcs each)
-        (filtered names true (is_on false)
-          (λ a e. dir_right a.dir (list_all is_single a.dims) (list_any (λ d. d.driven) a.dims) (list_any is_overlapping a.dims) e) nest.arcs each)
+    (filtered names false (is_on true) (λ a e. dir_left a.dir e) nest.arcs each)
+    (filtered names true (is_on false)
+    (λ a e. dir_right a.dir (list_all is_single a.dims) (list_any (λ d. d.driven) a.dims) (list_any is_overlapping a.dims) e) nest.arcs each)
 
 reason_back : (names : Names) (r : Reason) → IsReadableReason names r →
     option_and_then (given_line names) (option_and_then raw_line (parts_of (text_of (line_pieces (written_reason names r))))) ≡ Some (record { arcs = [] })

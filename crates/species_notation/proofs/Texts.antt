@@ -1,5 +1,5 @@
 -- The text of parts, and of lists of them item by item.
-use Rattle.std.proofs.Common.{◌≡◌, ◌∙◌, ap, sym, refl, subst, ℕ, zero, suc, ◌+◌, ◌<◌, ◌≤◌, List, [], ◌∷◌, ◌++◌, map, take, length, slice_index_or, append_assoc, append-nil, Bool, true, false, nat_eq, arith, ℤ}
+use Rattle.std.proofs.Common.{◌≡◌, ◌∙◌, ap, sym, refl, ℕ, zero, suc, ◌+◌, ◌<◌, ◌≤◌, List, [], ◌∷◌, ◌++◌, map, take, length, slice_index_or, append_assoc, append-nil, true, false, nat_eq, arith, ℤ}
 use Rattle.std.specs.List.{flat_map}
 use Rattle.species_notation.specs.declared.parts.Part.{Part}
 use Rattle.species_notation.specs.declared.raw.Summand.{Summand}

@@ -175,9 +175,9 @@ arc_from names right a ss os =
 abbrev pub given_arc : Names → Bool → RawArc → Option GivenArc
 given_arc names right a =
     option_and_then (λ ss.
-        option_and_then (λ os. arc_from names right a ss os)
-            (option_and_then (each_some offset_of) (offsets_of a.word a.offsets a.forms)))
-        (each_some sums_of a.forms)
+    option_and_then (λ os. arc_from names right a ss os)
+    (option_and_then (each_some offset_of) (offsets_of a.word a.offsets a.forms)))
+    (each_some sums_of a.forms)
 
 -- ---- lines
 

@@ -5,5 +5,4 @@ ghost use Rattle.species_notation.specs.Law.{ReadsBack};
 /// The text that is written for a nest is read as its arcs.
 pub fn law_notation()
     ensures { ReadsBack }
-{
-}
+{}

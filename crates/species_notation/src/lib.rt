@@ -6,6 +6,7 @@ mod given;
 mod law;
 mod parts;
 mod raw;
+mod reading;
 mod refusal;
 mod writing;
 

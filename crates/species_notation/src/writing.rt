@@ -72,11 +72,20 @@ fn put_product(out: &mut Vec<u8>, number: u128, name: &[u8]) -> Result<(), OutOf
 }
 
 /// Appends a term of a form.
-fn put_term(out: &mut Vec<u8>, is_first: bool, term: Term, iters: &[Name]) -> Result<(), OutOfMemory>
+fn put_term(
+    out: &mut Vec<u8>,
+    is_first: bool,
+    term: Term,
+    iters: &[Name],
+) -> Result<(), OutOfMemory>
     ensures { OnOk result (out.new.items ≡ out.old.items ++ parts_text (summand_parts is_first (written_term iters.now term))) }
 {
     put_lead(out, is_first, is_negative(term.coefficient))?;
-    put_product(out, term.coefficient.unsigned_abs(), name_at(iters, term.level))?;
+    put_product(
+        out,
+        term.coefficient.unsigned_abs(),
+        name_at(iters, term.level),
+    )?;
     Ok(())
 }
 
@@ -302,7 +311,12 @@ fn is_on(left: bool, arc: &Arc) -> bool
 }
 
 /// Appends an arc of a side, behind a separator where it is not the first.
-fn put_next_arc(out: &mut Vec<u8>, is_first: bool, arc: &Arc, names: &Names) -> Result<(), OutOfMemory>
+fn put_next_arc(
+    out: &mut Vec<u8>,
+    is_first: bool,
+    arc: &Arc,
+    names: &Names,
+) -> Result<(), OutOfMemory>
     requires { All HasSmallSpan arc.now.dims }
     ensures { OnOk result (out.new.items ≡ out.old.items ++ text_of (arc_after is_first (written_arc names.now arc.now))) }
 {

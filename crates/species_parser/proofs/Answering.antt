@@ -4,13 +4,12 @@ use Rattle.species_grammar.specs.Reader.{Answer}
 use Rattle.species_grammar.specs.Whole.{whole}
 use Rattle.species_ast.specs.Token.{Token}
 use Rattle.species_ast.specs.Text.Stream.{stream_of, grammar_tokens}
-use Rattle.species_ast.specs.Text.Load.{first_above, load_refusal}
+use Rattle.species_ast.specs.Text.Load.{load_refusal}
 use Rattle.species_ast.specs.Reading.{HasTokens, IsAccepted, IsRefusedByText, IsRefusedByLoad, IsRefusedByGrammar, Verdict, IsVerdict}
 use Rattle.species_ast.specs.declared.raw.RawUnit.{RawUnit}
 use Rattle.species_ast.specs.declared.token.LexRefusal.{LexRefusal}
 use Rattle.species_ast.proofs.Cutting.{cuts_one_way}
 use Rattle.species_parser.specs.Reading.{unit_at}
-use Rattle.species_parser.specs.Loaded.{empty_load}
 use Rattle.species_parser.specs.Listed.{GivesTokens}
 use Rattle.species_parser.specs.Parsing.{unit}
 use Rattle.species_parser.specs.Parsed.{Answers}
@@ -18,7 +17,6 @@ use Rattle.species_parser.specs.Finished.{GivesWhole, answer_of}
 use Rattle.species_parser.specs.declared.refusal.ReadRefusal.{ReadRefusal}
 use Rattle.species_parser.specs.declared.refusal.ReadRefusal.TheVariants.{Lex, Load, Syntax, Memory}
 use Rattle.species_parser.proofs.Forms.{unit_whole}
-use Rattle.species_parser.proofs.Loads.{load_refusal-grammar_tokens}
 use Rattle.species_parser.proofs.Whole.{unit_decides, stuck_errs}
 use Rattle.species_parser.proofs.Reading.{reads_one_way}
 
@@ -30,18 +28,14 @@ pub record Listed (text : List ℕ) (ts : List Token) : Type 0 where
 has_tokens : (text : List ℕ) (ts : List Token) → Listed text ts → HasTokens text ts
 has_tokens text ts l = (stream_of text, cuts_one_way.at_least_one text, l.refusal, l.tokens)
 
-load_of : (text : List ℕ) (ts : List Token) (o : Option ℕ) → Listed text ts → o ≡ first_above 2000 empty_load ts → load_refusal ts ≡ o
-load_of text ts o l e =
-    ap load_refusal l.tokens ∙ load_refusal-grammar_tokens (stream_of text).tokens ∙ ap (first_above 2000 empty_load) (sym l.tokens) ∙ sym e
-
 pub answers_err : (text : List ℕ) (r : ReadRefusal) → GivesTokens (Err r) (stream_of text) → Answers text (Err r)
 answers_err text (Lex refusal) h = (stream_of text, cuts_one_way.at_least_one text, h)
 answers_err text (Load place) h = absurd h
 answers_err text (Syntax place) h = absurd h
 answers_err text Memory h = tt
 
-pub answers_load : (text : List ℕ) (ts : List Token) (o : Option ℕ) (place : ℕ) → Listed text ts → o ≡ first_above 2000 empty_load ts → o ≡ Some place → IsRefusedByLoad text place
-answers_load text ts o place l e f = (ts, has_tokens text ts l, load_of text ts o l e ∙ f)
+pub answers_load : (text : List ℕ) (ts : List Token) (o : Option ℕ) (place : ℕ) → Listed text ts → o ≡ load_refusal ts → o ≡ Some place → IsRefusedByLoad text place
+answers_load text ts o place l e f = (ts, has_tokens text ts l, sym e ∙ f)
 
 answers_reader : (text : List ℕ) (ts : List Token) → HasTokens text ts → load_refusal ts ≡ None → (a : Answer Token RawUnit) → whole (unit_at (suc (length ts))) ts ≡ a
     → Answers text (answer_of (length text) a)
@@ -57,10 +51,10 @@ answers_given text a k (Err (Load place)) h = subst (Answers text) h k
 answers_given text a k (Err (Syntax place)) h = subst (Answers text) h k
 answers_given text a k (Err Memory) h = tt
 
-pub answers_whole : (text : List ℕ) (ts : List Token) (o : Option ℕ) → Listed text ts → o ≡ first_above 2000 empty_load ts → o ≡ None
+pub answers_whole : (text : List ℕ) (ts : List Token) (o : Option ℕ) → Listed text ts → o ≡ load_refusal ts → o ≡ None
     → (r : Result RawUnit ReadRefusal) → GivesWhole (length text) r (whole unit ts) → Answers text r
 answers_whole text ts o l e f r h =
-    answers_given text (whole unit ts) (answers_reader text ts (has_tokens text ts l) (load_of text ts o l e ∙ f) (whole unit ts) (sym (unit_whole ts))) r h
+    answers_given text (whole unit ts) (answers_reader text ts (has_tokens text ts l) (sym e ∙ f) (whole unit ts) (sym (unit_whole ts))) r h
 
 told : Verdict → Result RawUnit ReadRefusal
 told (Verdict.accepted u) = Ok u

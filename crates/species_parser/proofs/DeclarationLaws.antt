@@ -16,7 +16,7 @@ use Rattle.species_ast.specs.declared.raw.RawItem.{RawItem}
 use Rattle.species_ast.specs.declared.raw.RawItem.TheVariants as item
 use Rattle.species_ast.specs.declared.raw.RawStmt.{RawStmt}
 use Rattle.species_ast.specs.declared.raw.RawWhat.TheVariants as what
-use Rattle.species_parser.specs.Words.{the_punctuator, names, is_the_punctuator, is_the_keyword, goes_on}
+use Rattle.species_parser.specs.Words.{the_punctuator, names, is_the_punctuator, is_the_keyword, is_type, goes_on}
 use Rattle.species_parser.specs.Reading.{type_reader, subscript_reader, expression_at, subscripts_at, array_of, array_at, more_arrays_at, global_of, global_at, local_of, local_at, more_locals_at, declaration_of, declaration_at}
 use Rattle.species_parser.proofs.Words.{punctuator_is_word, name_is_word}
 use Rattle.species_parser.proofs.ExpressionLaws.{TypeSpelled, TypeBefore, type_lawful, ExprBefore}
@@ -126,8 +126,8 @@ global_full n x front rest (GlobalDeclaration.global p q k a more ks us ws kd d 
     let l2 = length-append us ws in
     let lu : length us < suc n = omega (arith, lt, l0, l1, l2) in
     let lw : length ws < n = omega (arith, lt, l0, l1, l2) in
-    let next : starts (is_the_keyword "int") (((us ++ ws) ++ punctuator q ";" ∷ []) ++ rest) ≡ false =
-    ap (starts (is_the_keyword "int")) (append_assoc (us ++ ws) (punctuator q ";" ∷ []) rest ∙ append_assoc us ws (punctuator q ";" ∷ rest)) ∙ array_starts (is_the_keyword "int") false (λ m. refl) a us (ws ++ (punctuator q ";" ∷ rest)) d in (
+    let next : starts is_type (((us ++ ws) ++ punctuator q ";" ∷ []) ++ rest) ≡ false =
+    ap (starts is_type) (append_assoc (us ++ ws) (punctuator q ";" ∷ []) rest ∙ append_assoc us ws (punctuator q ";" ∷ rest)) ∙ array_starts is_type false (λ m. refl) a us (ws ++ (punctuator q ";" ∷ rest)) d in (
       ((p, k), a ∷ more),
       refl,
       (
@@ -233,8 +233,8 @@ declaration_full n x front rest (LocalDeclaration.declaration p q k a more ks us
     let l2 = length-append us ws in
     let lu : length us < suc n = omega (arith, lt, l0, l1, l2) in
     let lw : length ws < n = omega (arith, lt, l0, l1, l2) in
-    let next : starts (is_the_keyword "int") (((us ++ ws) ++ punctuator q ";" ∷ []) ++ rest) ≡ false =
-    ap (starts (is_the_keyword "int")) (append_assoc (us ++ ws) (punctuator q ";" ∷ []) rest ∙ append_assoc us ws (punctuator q ";" ∷ rest)) ∙ local_starts (is_the_keyword "int") false (λ m. refl) a us (ws ++ (punctuator q ";" ∷ rest)) d in (
+    let next : starts is_type (((us ++ ws) ++ punctuator q ";" ∷ []) ++ rest) ≡ false =
+    ap (starts is_type) (append_assoc (us ++ ws) (punctuator q ";" ∷ []) rest ∙ append_assoc us ws (punctuator q ";" ∷ rest)) ∙ local_starts is_type false (λ m. refl) a us (ws ++ (punctuator q ";" ∷ rest)) d in (
       ((p, k), a ∷ more),
       refl,
       (
@@ -257,11 +257,13 @@ declaration_lawful n =
     declaration_viable
 
 -- a declaration begins with a type
-pub declaration_starts : (c : Token → Bool) (b : Bool) → ((p : ℕ) → c (keyword p "int") ≡ b) → ((p : ℕ) → c (keyword p "unsigned") ≡ b) → (x : RawStmt) (ts rest : List Token) → LocalDeclaration x ts → starts c (ts ++ rest) ≡ b
-declaration_starts c b i u x ts rest (LocalDeclaration.declaration p q k a more ks us ws kd d ds) =
-    ap (starts c) (append_assoc ks ((us ++ ws) ++ punctuator q ";" ∷ []) rest) ∙ type_starts c b i u p k ks (((us ++ ws) ++ punctuator q ";" ∷ []) ++ rest) kd
+pub declaration_starts : (c : Token → Bool) (b : Bool) → ((p : ℕ) → c (keyword p "int") ≡ b) → ((p : ℕ) → c (keyword p "unsigned") ≡ b) → ((p : ℕ) → c (keyword p "long") ≡ b) → (x : RawStmt) (ts rest : List Token) → LocalDeclaration x ts → starts c (ts ++ rest) ≡ b
+declaration_starts c b i u l x ts rest (LocalDeclaration.declaration p q k a more ks us ws kd d ds) =
+    ap (starts c) (append_assoc ks ((us ++ ws) ++ punctuator q ";" ∷ []) rest) ∙ type_starts c b i u l p k ks (((us ++ ws) ++ punctuator q ";" ∷ []) ++ rest) kd
   where
-    type_starts : (c : Token → Bool) (b : Bool) → ((p : ℕ) → c (keyword p "int") ≡ b) → ((p : ℕ) → c (keyword p "unsigned") ≡ b) → (p : ℕ) (k : Kind) (ks rest : List Token) → TypeSpecifier p k ks → starts c (ks ++ rest) ≡ b
-    type_starts c b i u p k ks rest (TypeSpecifier.int o) = i o
-    type_starts c b i u p k ks rest (TypeSpecifier.unsigned o) = u o
-    type_starts c b i u p k ks rest (TypeSpecifier.unsigned_int o r) = u o
+    type_starts : (c : Token → Bool) (b : Bool) → ((p : ℕ) → c (keyword p "int") ≡ b) → ((p : ℕ) → c (keyword p "unsigned") ≡ b) → ((p : ℕ) → c (keyword p "long") ≡ b) → (p : ℕ) (k : Kind) (ks rest : List Token) → TypeSpecifier p k ks → starts c (ks ++ rest) ≡ b
+    type_starts c b i u l p k ks rest (TypeSpecifier.int o) = i o
+    type_starts c b i u l p k ks rest (TypeSpecifier.unsigned o) = u o
+    type_starts c b i u l p k ks rest (TypeSpecifier.unsigned_int o r) = u o
+    type_starts c b i u l p k ks rest (TypeSpecifier.long o r s ts m) = l o
+    type_starts c b i u l p k ks rest (TypeSpecifier.unsigned_long o r s j ts m) = u o

@@ -5,14 +5,14 @@ use Rattle.species_grammar.specs.Reader.{Reader, Word, is_of, one, word, both, m
 use Rattle.species_grammar.specs.Lawful.{plain, Enough, Takes}
 use Rattle.species_grammar.proofs.Depth.{fewer_enough, both_enough, mapped_enough, choose_enough, one_enough, skip_enough, ends_enough, maybe_enough, maybe_word_enough, many_enough, until_enough, level_enough, one_takes, both_takes, mapped_takes, choose_takes, skip_takes, fewer_takes, takes_of, takes_none, maybe_word_takes}
 use Rattle.species_ast.specs.Token.{Token}
-use Rattle.species_ast.specs.Grammar.Words.{punctuator}
-use Rattle.species_ast.specs.Grammar.Expressions.{Expression, Target, binary_sign}
+use Rattle.species_ast.specs.Grammar.Words.{sign, punctuator}
+use Rattle.species_ast.specs.Grammar.Expressions.{Expression, Target, operation_sign}
 use Rattle.species_ast.specs.declared.raw.RawExpr.{RawExpr}
 use Rattle.species_ast.specs.declared.raw.RawTerm.TheVariants as term
 use Rattle.species_ast.specs.declared.raw.RawTarget.{RawTarget}
 use Rattle.species_ast.specs.declared.raw.RawStep.TheVariants as step
 use Rattle.species_parser.specs.Words.{the_punctuator, the_keyword, unary_operators, operators_at, assignment_operators, tests, names, numbers, includes, species_lines, parallel_lines, atomic_lines, is_the_punctuator, is_the_keyword, is_type, is_loop}
-use Rattle.species_parser.specs.Reading.{of_kind, unsigned_of, type_reader, number_of, element_of, unary_of, cast_of, opened_of, operation_of, choice_of, subscript_reader, subscripts_reader, opened_reader, operand_reader, level_reader, binary_reader, choice_reader, operand_at, expression_at, product_at, subscripts_at, target_of, target_at, array_of, array_at, more_arrays_at, global_of, global_at, local_of, local_at, more_locals_at, declaration_of, declaration_at, up_after, down_after, set_to, change_tail_at, up_first, down_first, target_first, change_at, assignment_of, atomic_of, atomic_at, add_after, sub_after, sum_at, step_up, step_down, step_add, step_sub, step_set, step_tail_at, step_of, step_at, header_of, optional, header_step_at, header_test_at, header_at, parallel_of, parallel_reader, loop_of, condition_at, if_of, items_at, block_of, empty_of, statement_at, body_at, function_of, function_at, after_of, include_of, external_at, unstatic, unit_at}
+use Rattle.species_parser.specs.Reading.{of_kind, first_place, unsigned_of, unsigned_long_of, long_words, unsigned_tail, type_reader, number_of, element_of, unary_of, cast_of, opened_of, operation_of, choice_of, subscript_reader, subscripts_reader, opened_reader, operand_reader, level_reader, binary_reader, choice_reader, operand_at, expression_at, product_at, subscripts_at, target_of, target_at, array_of, array_at, more_arrays_at, global_of, global_at, local_of, local_at, more_locals_at, declaration_of, declaration_at, up_after, down_after, set_to, change_tail_at, up_first, down_first, target_first, change_at, assignment_of, atomic_of, atomic_at, add_after, sub_after, sum_at, step_up, step_down, step_add, step_sub, step_set, step_tail_at, step_of, step_at, header_of, optional, header_step_at, header_test_at, header_at, parallel_of, parallel_reader, loop_of, condition_at, if_of, items_at, block_of, empty_of, statement_at, body_at, function_of, function_at, after_of, include_of, external_at, unstatic, unit_at}
 use Rattle.species_parser.proofs.ExpressionLaws.{ExprBefore, ExprLaw, level_law}
 use Rattle.species_parser.proofs.Operands.{operand_law, expression_laws, expression_lawful, operand_lawful, target_lawful, subscripts_lawful}
 use Rattle.species_parser.proofs.DeclarationLaws.{declaration_lawful, global_lawful, arrays_lawful, local_lawful, locals_lawful}
@@ -41,15 +41,42 @@ word_less w q n e = less_one (both (word w) q) n (after_word w q n e)
 
 -- ---- expressions
 
+long_takes : Takes long_words 1
+unfolding long_words
+long_takes =
+    mapped_takes first_place _ 1 (both_takes (word (the_keyword "long")) (both (word (the_keyword "long")) (maybe_word (the_keyword "int"))) 1 0 (one_takes (the_keyword "long").says)
+    (both_takes (word (the_keyword "long")) (maybe_word (the_keyword "int")) 0 0 (fewer_takes (word (the_keyword "long")) 1 (one_takes (the_keyword "long").says)) (maybe_word_takes (the_keyword "int"))))
+
+long_enough : (n : ℕ) → Enough long_words n
+unfolding long_words
+long_enough n =
+    mapped_enough first_place _ n (word_less (the_keyword "long") _ n (word_less (the_keyword "long") _ n (maybe_word_enough (the_keyword "int") n)))
+
+tail_takes : Takes unsigned_tail 0
+unfolding unsigned_tail
+tail_takes =
+    choose_takes (is_the_keyword "long") _ _ 0 (mapped_takes unsigned_long_of _ 0 (fewer_takes long_words 1 long_takes)) (mapped_takes unsigned_of _ 0 (maybe_word_takes (the_keyword "int")))
+
+tail_enough : (n : ℕ) → Enough unsigned_tail n
+unfolding unsigned_tail
+tail_enough n =
+    choose_enough (is_the_keyword "long") _ _ n (mapped_enough unsigned_long_of _ n (long_enough n)) (mapped_enough unsigned_of _ n (maybe_word_enough (the_keyword "int") n))
+
 type_takes : Takes type_reader 1
-type_takes = choose_takes (is_the_keyword "int") _ _ 1 (mapped_takes (of_kind _) _ 1 (one_takes (the_keyword "int").says)) (mapped_takes unsigned_of _ 1 (both_takes (word (the_keyword "unsigned")) (maybe_word (the_keyword "int")) 1 0 (one_takes (the_keyword "unsigned").says) (maybe_word_takes (the_keyword "int"))))
+unfolding type_reader
+type_takes =
+    choose_takes (is_the_keyword "int") _ _ 1 (mapped_takes (of_kind _) _ 1 (one_takes (the_keyword "int").says))
+    (choose_takes (is_the_keyword "unsigned") _ _ 1 (both_takes (word (the_keyword "unsigned")) unsigned_tail 1 0 (one_takes (the_keyword "unsigned").says) tail_takes) (mapped_takes (of_kind _) _ 1 long_takes))
 
 type_enough : (n : ℕ) → Enough type_reader n
-type_enough n = choose_enough (is_the_keyword "int") _ _ n (mapped_enough (of_kind _) _ n (one_enough (the_keyword "int").says n)) (mapped_enough unsigned_of _ n (word_less (the_keyword "unsigned") _ n (maybe_word_enough (the_keyword "int") n)))
+unfolding type_reader
+type_enough n =
+    choose_enough (is_the_keyword "int") _ _ n (mapped_enough (of_kind _) _ n (one_enough (the_keyword "int").says n))
+    (choose_enough (is_the_keyword "unsigned") _ _ n (word_less (the_keyword "unsigned") _ n (tail_enough n)) (mapped_enough (of_kind _) _ n (long_enough n)))
 
 expression_long : (n : ℕ) (x : RawExpr) (ts : List Token) → Expression n x ts → 1 ≤ length ts
 expression_long n x ts (Expression.conditional p q c y z cs ys zs d e f) = let l = length-append cs (punctuator p "?" ∷ (ys ++ (punctuator q ":" ∷ zs))) in omega (arith, l)
-expression_long n x ts (Expression.binary_operation p o y z ys zs d e) = let l = length-append ys (punctuator p (binary_sign o) ∷ zs) in omega (arith, l)
+expression_long n x ts (Expression.binary_operation p o y z ys zs d e) = let l = length-append ys (sign p (operation_sign o) ∷ zs) in omega (arith, l)
 expression_long n x ts (Expression.unary_operation p o y ys d) = omega arith
 expression_long n x ts (Expression.cast p q r k y ks ys kd d) = omega arith
 expression_long n x ts (Expression.constant m v) = omega arith

@@ -28,6 +28,7 @@ use Rattle.species_ast.specs.declared.raw.RawTarget.{RawTarget}
 use Rattle.species_ast.specs.declared.raw.RawTarget as targets
 use Rattle.species_ast.specs.declared.raw.RawTerm.TheVariants as term
 use Rattle.species_ast.specs.declared.raw.RawWhat.TheVariants as what
+use Rattle.species_parser.specs.Reading.{long_words, unsigned_tail, type_reader}
 use Rattle.species_parser.proofs.Whole.{read_derives}
 
 abbrev at : ℕ → String → Spelling
@@ -80,7 +81,7 @@ two_arrays_tree =
     }
 
 pub two_arrays : Derives two_arrays_tokens two_arrays_tree
-unfolding targets.out-RawTarget denote.Hole.Carrier.out targets.roll-RawTarget denote.Hole.Carrier.roll
+unfolding targets.out-RawTarget denote.Hole.Carrier.out targets.roll-RawTarget denote.Hole.Carrier.roll type_reader unsigned_tail long_words
 two_arrays = read_derives 30 two_arrays_tokens two_arrays_tree refl
 
 -- #include <stdint.h> ⏎ void f() { ; }
@@ -93,7 +94,7 @@ an_include_tree =
     record { items = item.Include (at 0 "<stdint.h>") ∷ []; function = at 25 "f"; body = statement 31 what.Empty ∷ [] }
 
 pub an_include : Derives an_include_tokens an_include_tree
-unfolding targets.out-RawTarget denote.Hole.Carrier.out targets.roll-RawTarget denote.Hole.Carrier.roll
+unfolding targets.out-RawTarget denote.Hole.Carrier.out targets.roll-RawTarget denote.Hole.Carrier.roll type_reader unsigned_tail long_words
 an_include = read_derives 9 an_include_tokens an_include_tree refl
 
 -- void f() { if (a) if (b) x = 1; else x = 2; }
@@ -108,7 +109,7 @@ nearest_if_tree =
     function (at 5 "f") (statement 11 (what.If (var 15 "a") (statement 18 (what.If (var 22 "b") (set 25 "x" (lit 29 1)) (Some (set 37 "x" (lit 41 2))))) None) ∷ [])
 
 pub nearest_if : Derives nearest_if_tokens nearest_if_tree
-unfolding targets.out-RawTarget denote.Hole.Carrier.out targets.roll-RawTarget denote.Hole.Carrier.roll
+unfolding targets.out-RawTarget denote.Hole.Carrier.out targets.roll-RawTarget denote.Hole.Carrier.roll type_reader unsigned_tail long_words
 nearest_if = read_derives 24 nearest_if_tokens nearest_if_tree refl
 
 -- void f() { if (a) { if (b) ; } else x = 2; }
@@ -123,7 +124,7 @@ else_after_block_tree =
     function (at 5 "f") (statement 11 (what.If (var 15 "a") (statement 18 (what.Block (statement 20 (what.If (var 24 "b") (statement 27 what.Empty) None) ∷ []))) (Some (set 36 "x" (lit 40 2)))) ∷ [])
 
 pub else_after_block : Derives else_after_block_tokens else_after_block_tree
-unfolding targets.out-RawTarget denote.Hole.Carrier.out targets.roll-RawTarget denote.Hole.Carrier.roll
+unfolding targets.out-RawTarget denote.Hole.Carrier.out targets.roll-RawTarget denote.Hole.Carrier.roll type_reader unsigned_tail long_words
 else_after_block = read_derives 23 else_after_block_tokens else_after_block_tree refl
 
 -- void f() { x = - -1; }
@@ -137,7 +138,7 @@ minus_minus_tree =
     function (at 5 "f") (set 11 "x" (un 15 unary.Neg (un 17 unary.Neg (lit 18 1))) ∷ [])
 
 pub minus_minus : Derives minus_minus_tokens minus_minus_tree
-unfolding targets.out-RawTarget denote.Hole.Carrier.out targets.roll-RawTarget denote.Hole.Carrier.roll
+unfolding targets.out-RawTarget denote.Hole.Carrier.out targets.roll-RawTarget denote.Hole.Carrier.roll type_reader unsigned_tail long_words
 minus_minus = read_derives 13 minus_minus_tokens minus_minus_tree refl
 
 -- void f() { x = a - b - c; }
@@ -151,7 +152,7 @@ from_the_left_tree =
     function (at 5 "f") (set 11 "x" (bin 15 binary.Sub (bin 15 binary.Sub (var 15 "a") (var 19 "b")) (var 23 "c")) ∷ [])
 
 pub from_the_left : Derives from_the_left_tokens from_the_left_tree
-unfolding targets.out-RawTarget denote.Hole.Carrier.out targets.roll-RawTarget denote.Hole.Carrier.roll
+unfolding targets.out-RawTarget denote.Hole.Carrier.out targets.roll-RawTarget denote.Hole.Carrier.roll type_reader unsigned_tail long_words
 from_the_left = read_derives 15 from_the_left_tokens from_the_left_tree refl
 
 -- void f() { x = a ? b : c ? d : e; }
@@ -165,7 +166,7 @@ choices_tree =
     function (at 5 "f") (set 11 "x" (expression 15 (term.Cond (var 15 "a") (var 19 "b") (expression 23 (term.Cond (var 23 "c") (var 27 "d") (var 31 "e"))))) ∷ [])
 
 pub choices : Derives choices_tokens choices_tree
-unfolding targets.out-RawTarget denote.Hole.Carrier.out targets.roll-RawTarget denote.Hole.Carrier.roll
+unfolding targets.out-RawTarget denote.Hole.Carrier.out targets.roll-RawTarget denote.Hole.Carrier.roll type_reader unsigned_tail long_words
 choices = read_derives 19 choices_tokens choices_tree refl
 
 -- void f() { x = a + b * c < d && !e || 1; }
@@ -181,7 +182,7 @@ by_level_tree =
     (set 11 "x" (expression 15 (term.Or (expression 15 (term.And (bin 15 binary.Lt (bin 15 binary.Add (var 15 "a") (bin 19 binary.Mul (var 19 "b") (var 23 "c"))) (var 27 "d")) (un 32 unary.LogNot (var 33 "e")))) (lit 38 1))) ∷ [])
 
 pub by_level : Derives by_level_tokens by_level_tree
-unfolding targets.out-RawTarget denote.Hole.Carrier.out targets.roll-RawTarget denote.Hole.Carrier.roll
+unfolding targets.out-RawTarget denote.Hole.Carrier.out targets.roll-RawTarget denote.Hole.Carrier.roll type_reader unsigned_tail long_words
 by_level = read_derives 22 by_level_tokens by_level_tree refl
 
 -- void f() { x = (unsigned int) -a >> (b); }
@@ -196,7 +197,7 @@ casts_tree =
     function (at 5 "f") (set 11 "x" (bin 15 binary.Shr (expression 15 (term.Cast kind.Unsigned (un 30 unary.Neg (var 31 "a")))) (expression 36 (term.Paren (var 37 "b")))) ∷ [])
 
 pub casts : Derives casts_tokens casts_tree
-unfolding targets.out-RawTarget denote.Hole.Carrier.out targets.roll-RawTarget denote.Hole.Carrier.roll
+unfolding targets.out-RawTarget denote.Hole.Carrier.out targets.roll-RawTarget denote.Hole.Carrier.roll type_reader unsigned_tail long_words
 casts = read_derives 20 casts_tokens casts_tree refl
 
 -- void f() { int x = 1, y; unsigned int z; }
@@ -212,7 +213,7 @@ declarations_tree =
     ∷ statement 25 (what.Declare kind.Unsigned (record { name = at 38 "z"; init = None } ∷ [])) ∷ [])
 
 pub declarations : Derives declarations_tokens declarations_tree
-unfolding targets.out-RawTarget denote.Hole.Carrier.out targets.roll-RawTarget denote.Hole.Carrier.roll
+unfolding targets.out-RawTarget denote.Hole.Carrier.out targets.roll-RawTarget denote.Hole.Carrier.roll type_reader unsigned_tail long_words
 declarations = read_derives 18 declarations_tokens declarations_tree refl
 
 -- void f() { A[i][0]++; --x; y--; ++z; x <<= 2; }
@@ -230,7 +231,7 @@ changes_tree =
     ∷ statement 27 (what.Change (change.Down (tgt 27 "y"))) ∷ statement 32 (what.Change (change.UpBefore (tgt 34 "z"))) ∷ statement 37 (what.Change (change.Set (tgt 37 "x") op.Shl (lit 43 2))) ∷ [])
 
 pub changes : Derives changes_tokens changes_tree
-unfolding targets.out-RawTarget denote.Hole.Carrier.out targets.roll-RawTarget denote.Hole.Carrier.roll
+unfolding targets.out-RawTarget denote.Hole.Carrier.out targets.roll-RawTarget denote.Hole.Carrier.roll type_reader unsigned_tail long_words
 changes = read_derives 29 changes_tokens changes_tree refl
 
 -- void f() { ⏎ #pragma species t ⏎ #pragma omp parallel for ⏎ for (i = 0; j < n; i = k + 2 * m) ; }
@@ -249,7 +250,7 @@ lines_before_a_loop_tree =
     (statement 88 what.Empty))) ∷ [])
 
 pub lines_before_a_loop : Derives lines_before_a_loop_tokens lines_before_a_loop_tree
-unfolding targets.out-RawTarget denote.Hole.Carrier.out targets.roll-RawTarget denote.Hole.Carrier.roll
+unfolding targets.out-RawTarget denote.Hole.Carrier.out targets.roll-RawTarget denote.Hole.Carrier.roll type_reader unsigned_tail long_words
 lines_before_a_loop = read_derives 28 lines_before_a_loop_tokens lines_before_a_loop_tree refl
 
 -- void f() { for (int i = n; i >= 0; --i) x = i; }
@@ -267,7 +268,7 @@ a_typed_loop_tree =
     (set 40 "x" (var 44 "i")))) ∷ [])
 
 pub a_typed_loop : Derives a_typed_loop_tokens a_typed_loop_tree
-unfolding targets.out-RawTarget denote.Hole.Carrier.out targets.roll-RawTarget denote.Hole.Carrier.roll
+unfolding targets.out-RawTarget denote.Hole.Carrier.out targets.roll-RawTarget denote.Hole.Carrier.roll type_reader unsigned_tail long_words
 a_typed_loop = read_derives 25 a_typed_loop_tokens a_typed_loop_tree refl
 
 -- void f() { ⏎ #pragma omp atomic update ⏎ h[x] += 1; }
@@ -281,5 +282,5 @@ an_atomic_line_tree =
     function (at 5 "f") (statement 37 (what.Atomic (target (at 37 "h") (var 39 "x" ∷ [])) (lit 45 1)) ∷ [])
 
 pub an_atomic_line : Derives an_atomic_line_tokens an_atomic_line_tree
-unfolding targets.out-RawTarget denote.Hole.Carrier.out targets.roll-RawTarget denote.Hole.Carrier.roll
+unfolding targets.out-RawTarget denote.Hole.Carrier.out targets.roll-RawTarget denote.Hole.Carrier.roll type_reader unsigned_tail long_words
 an_atomic_line = read_derives 15 an_atomic_line_tokens an_atomic_line_tree refl

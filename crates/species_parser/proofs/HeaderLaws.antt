@@ -5,11 +5,12 @@ use Prim.Native.String.{String}
 use Rattle.species_grammar.specs.Reader.{is_of, starts, word, both, mapped, choose, skip, ends, maybe_word}
 use Rattle.species_grammar.specs.Lawful.{Spelled, Before, Lawful, plain, word_spelled, both_before, both_spelled, mapped_before, mapped_spelled, choose_before, choose_spelled, skip_before, skip_spelled, ends_before, ends_spelled, maybe_word_before, maybe_word_spelled}
 use Rattle.species_grammar.proofs.Laws.{recast_plain, both_lawful, mapped_lawful, word_lawful, choose_lawful, skip_lawful, ends_lawful, maybe_word_lawful}
+use Rattle.species_ast.specs.Signs.{assignment_sign, test_sign}
 use Rattle.species_ast.specs.Token.{Token}
 use Rattle.species_ast.specs.Spelling.{Spelling}
-use Rattle.species_ast.specs.Grammar.Words.{punctuator, name, Optional}
+use Rattle.species_ast.specs.Grammar.Words.{sign, punctuator, name, Optional}
 use Rattle.species_ast.specs.Grammar.Expressions.{Expression, Target}
-use Rattle.species_ast.specs.Grammar.Statements.{assignment_sign, target_place, Change, test_sign, Step, Header, ForHeader, SpeciesLine, ParallelLine}
+use Rattle.species_ast.specs.Grammar.Statements.{target_place, Change, Step, Header, ForHeader, SpeciesLine, ParallelLine}
 use Rattle.species_ast.specs.declared.tree.Schedule.{Schedule}
 use Rattle.species_ast.specs.declared.tree.Test.{Test}
 use Rattle.species_ast.specs.declared.raw.RawExpr.{RawExpr}
@@ -84,10 +85,10 @@ after_target c b h t ts us rest d = ap (starts c) (append_assoc ts us rest) ∙ 
 
 change_full : (n : ℕ) (p : ℕ) (x : RawChange) (front rest : List Token) → Change p x front → length front < n → starts (goes_on 0) rest ≡ false → starts (is_the_punctuator "[") rest ≡ false → ChangeF n (p, x) front rest
 change_full n p x front rest (Change.set q o t e ts xs d xd) lt h k =
-    let l0 = length-append ts (punctuator q (assignment_sign o) ∷ xs) in
+    let l0 = length-append ts (sign q (assignment_sign o) ∷ xs) in
     let lx : length xs < n = omega (arith, lt, l0) in
     let l1 : length ts < suc n = omega (arith, lt, l0) in
-    let sign = assignment_operators.token (q, o) in
+    let mark = assignment_operators.token (q, o) in
     let own = assignment_is_word.own (q, o) in
     inr (
       after_target (is_the_punctuator "++") false (λ m. refl) t ts _ rest d,
@@ -98,14 +99,14 @@ change_full n p x front rest (Change.set q o t e ts xs d xd) lt h k =
           refl,
           (
             ts,
-            punctuator q (assignment_sign o) ∷ xs,
+            sign q (assignment_sign o) ∷ xs,
             refl,
-            (d, l1, mark_apart assignment_operators "[" sign (q, o) own (λ r. refl)),
+            (d, l1, mark_apart assignment_operators "[" mark (q, o) own (λ r. refl)),
             inr (
-              mark_apart assignment_operators "++" sign (q, o) own (λ r. refl),
+              mark_apart assignment_operators "++" mark (q, o) own (λ r. refl),
               inr (
-                mark_apart assignment_operators "--" sign (q, o) own (λ r. refl),
-                (((q, o), e), refl, (sign ∷ [], xs, refl, refl, (xd, lx, h))),
+                mark_apart assignment_operators "--" mark (q, o) own (λ r. refl),
+                (((q, o), e), refl, (mark ∷ [], xs, refl, refl, (xd, lx, h))),
               ),
             ),
           ),
@@ -333,7 +334,7 @@ header_viable x front (p, f1, i0, (h, y, (bs, f2, i1, bd, (n1, f3, i2, j2, (q, f
     subst (λ z. ForHeader z front) y
     (subst (ForHeader (header_of h))
     (sym (i0 ∙ ap (λ z. punctuator p "(" ∷ z) (i1 ∙ ap (λ z. bs ++ z) (i2 ∙ ap (λ z. z ++ f3) j2 ∙ ap (λ z. name h.1.0 ∷ z) (i3 ∙ ap (λ z. punctuator q "=" ∷ z) (i4 ∙ ap (λ z. xs ++ z)
-    (i5 ∙ ap (λ z. punctuator r ";" ∷ z) (i6 ∙ ap (λ z. z ++ f7) j6 ∙ ap (λ z. name h.1.1.1.0 ∷ z) (i7 ∙ ap (λ z. z ++ f8) j7 ∙ ap (λ z. punctuator h.1.1.1.1.0.0 (test_sign h.1.1.1.1.0.1) ∷ z)
+    (i5 ∙ ap (λ z. punctuator r ";" ∷ z) (i6 ∙ ap (λ z. z ++ f7) j6 ∙ ap (λ z. name h.1.1.1.0 ∷ z) (i7 ∙ ap (λ z. z ++ f8) j7 ∙ ap (λ z. sign h.1.1.1.1.0.0 (test_sign h.1.1.1.1.0.1) ∷ z)
     (i8 ∙ ap (λ z. ys ++ z) (i9 ∙ ap (λ z. punctuator u ";" ∷ z) i10)))))))))))
     (ForHeader.header p q r h.1.1.1.1.0.0 u w h.0 h.1.0 h.1.1.1.0 h.1.1.1.1.0.1 h.1.1.0 h.1.1.1.1.1.0 h.1.1.1.1.1.1 bs xs ys ss bd xd yd sd))
 
@@ -342,7 +343,7 @@ header_full n x front rest (ForHeader.header p q r o u w b i j c y z s bs xs ys 
     let f10 : List Token = ss ++ punctuator w ")" ∷ [] in
     let f9 : List Token = punctuator u ";" ∷ f10 in
     let f8 : List Token = ys ++ f9 in
-    let f5 : List Token = punctuator r ";" ∷ name j ∷ punctuator o (test_sign c) ∷ f8 in
+    let f5 : List Token = punctuator r ";" ∷ name j ∷ sign o (test_sign c) ∷ f8 in
     let f4 : List Token = xs ++ f5 in
     let f2 : List Token = name i ∷ punctuator q "=" ∷ f4 in
     let l0 = length-append bs f2 in
@@ -379,14 +380,14 @@ header_full n x front rest (ForHeader.header p q r o u w b i j c y z s bs xs ys 
                 (xd, lx, refl),
                 (
                   r,
-                  name j ∷ punctuator o (test_sign c) ∷ f8,
+                  name j ∷ sign o (test_sign c) ∷ f8,
                   refl,
                   (
                     name j ∷ [],
-                    punctuator o (test_sign c) ∷ f8,
+                    sign o (test_sign c) ∷ f8,
                     refl,
                     refl,
-                    (punctuator o (test_sign c) ∷ [], f8, refl, refl, (ys, f9, refl, (yd, ly, refl), (u, f10, refl, (w, ss, refl, (sd, ls, refl))))),
+                    (sign o (test_sign c) ∷ [], f8, refl, refl, (ys, f9, refl, (yd, ly, refl), (u, f10, refl, (w, ss, refl, (sd, ls, refl))))),
                   ),
                 ),
               ),

@@ -1,14 +1,13 @@
 -- The load of a list of tokens, while it is counted.
-use Rattle.std.proofs.Common.{◌≡◌, ◌∙◌, ap, sym, refl, ℕ, ◌+◌, ◌-◌, ◌<◌, ◌≤◌, Bool, true, false, ◌&&◌, not, cond, List, [], ◌∷◌, length, take, drop, get_or, filter, codes, Some, arith, max}
+use Rattle.std.proofs.Common.{◌≡◌, ◌∙◌, ap, sym, refl, ℕ, ◌+◌, ◌-◌, ◌<◌, ◌≤◌, Bool, true, false, ◌&&◌, not, cond, List, [], ◌∷◌, length, take, drop, get_or, codes, Some, arith, max}
 use Rattle.std.proofs.lemmas.Bool.{le-ltb}
 use Rattle.std.proofs.lemmas.List.{at_drop_more, take_all, length-drop}
 use Rattle.species_ast.specs.Token as ast
+use Rattle.species_ast.specs.Limits.{most_load}
 use Rattle.species_ast.specs.Text.Load.{Load, is_spelled, block_load, closed_blocks, counted, is_end, is_else_next, settled, first_above, load_refusal}
-use Rattle.species_ast.specs.Text.Stream.{is_definition, grammar_tokens}
 use Rattle.species_lexer.specs.Tokens.{seen_token}
 use Rattle.species_lexer.specs.declared.token.Token.{Token}
 use Rattle.species_parser.specs.Given.{seen_tokens}
-use Rattle.species_parser.specs.Loaded.{empty_load}
 
 abbrev pub highest : List ℕ → ℕ
 highest [] = 0
@@ -16,9 +15,9 @@ highest (n ∷ ns) = max n (highest ns)
 
 -- Before the token at an index, the load says of those that are left what the whole list says, and is within its limit.
 pub record Counts (all : List Token) (i : ℕ) (l : Load) : Type 0 where
-  pub same : first_above 2000 l (seen_tokens (drop i all)) ≡ first_above 2000 empty_load (seen_tokens all)
-  pub small : l.load ≤ 2000
-  pub blocks : highest l.blocks ≤ 2000
+  pub same : first_above most_load l (seen_tokens (drop i all)) ≡ load_refusal (seen_tokens all)
+  pub small : l.load ≤ most_load
+  pub blocks : highest l.blocks ≤ most_load
   pub brackets : l.brackets ≤ i
 
 closed_lower : (ns : List ℕ) → highest (closed_blocks ns) ≤ highest ns
@@ -52,8 +51,8 @@ by_tests_counted false false false false l = record { load = refl; blocks = omeg
 pub counted_to : (t : ast.Token) (l : Load) → CountedTo l (counted t l)
 counted_to t l = by_tests_counted (is_spelled t (codes "{")) (is_spelled t (codes "}")) (is_spelled t (codes "(")) (is_spelled t (codes ")")) l
 
-within : (t : ast.Token) (ts : List ast.Token) (l : Load) → (counted t l).load ≤ 2000 → first_above 2000 l (t ∷ ts) ≡ first_above 2000 (settled t ts (counted t l)) ts
-within t ts l le = ap (λ b. cond b (Some t.place) (first_above 2000 (settled t ts (counted t l)) ts)) (le-ltb 2000 (counted t l).load le)
+within : (t : ast.Token) (ts : List ast.Token) (l : Load) → (counted t l).load ≤ most_load → first_above most_load l (t ∷ ts) ≡ first_above most_load (settled t ts (counted t l)) ts
+within t ts l le = ap (λ b. cond b (Some t.place) (first_above most_load (settled t ts (counted t l)) ts)) (le-ltb most_load (counted t l).load le)
 
 -- what the end of a statement does to a load
 record SettledTo (l after : Load) : Type 0 where
@@ -68,7 +67,7 @@ settled_by false l = record { load = omega arith; blocks = refl; brackets = refl
 settled_to : (t : ast.Token) (ts : List ast.Token) (l : Load) → SettledTo l (settled t ts l)
 settled_to t ts l = settled_by (is_end t l && not (is_else_next ts)) l
 
-pub counts_next : (all : List Token) (i : ℕ) (l after next : Load) (d : Token) → Counts all i l → i < length all → after ≡ counted (seen_token (get_or all i d)) l → after.load ≤ 2000
+pub counts_next : (all : List Token) (i : ℕ) (l after next : Load) (d : Token) → Counts all i l → i < length all → after ≡ counted (seen_token (get_or all i d)) l → after.load ≤ most_load
     → next ≡ settled (seen_token (get_or all i d)) (seen_tokens (take (length all - (i + 1)) (drop (i + 1) all))) after → Counts all (i + 1) next
 counts_next all i l after next d h lt e small f =
     let t = seen_token (get_or all i d) in
@@ -76,31 +75,12 @@ counts_next all i l after next d h lt e small f =
     let whole : take (length all - (i + 1)) (drop (i + 1) all) ≡ drop (i + 1) all = take_all (length all - (i + 1)) (drop (i + 1) all) (omega (arith, length-drop (i + 1) all)) in
     let n : next ≡ settled t ts (counted t l) = f ∙ ap (λ z. settled t (seen_tokens z) after) whole ∙ ap (settled t ts) e in
     let c = counted_to t l in
-    let k : (counted t l).load ≤ 2000 = omega (arith, ap (λ z. z.load) e) in
+    let k : (counted t l).load ≤ most_load = omega (arith, ap (λ z. z.load) e) in
     let s = settled_to t ts (counted t l) in
     record {
       same =
-          ap (λ z. first_above 2000 z ts) n ∙ sym (within t ts l k) ∙ sym (at_drop_more (λ z. first_above 2000 l (seen_tokens z)) all i d lt) ∙ h.same;
+          ap (λ z. first_above most_load z ts) n ∙ sym (within t ts l k) ∙ sym (at_drop_more (λ z. first_above most_load l (seen_tokens z)) all i d lt) ∙ h.same;
       small = omega (arith, ap (λ z. z.load) n, s.load, c.load, c.blocks, h.small, h.blocks);
       blocks = omega (arith, ap (λ z. highest z.blocks) n, ap highest s.blocks, c.load, c.blocks, h.small, h.blocks);
       brackets = omega (arith, ap (λ z. z.brackets) n, s.brackets, c.brackets, h.brackets);
     }
-
--- ---- the load of a list without definitions
-
-filter_kept : {A : Type 0} (p : A → Bool) (x : A) (xs : List A) → p x ≡ true → filter p (x ∷ xs) ≡ x ∷ filter p xs
-filter_kept p x xs e = ap (λ b. cond b (x ∷ filter p xs) (filter p xs)) e
-
-filter_passed : {A : Type 0} (p : A → Bool) (x : A) (xs : List A) → p x ≡ false → filter p (x ∷ xs) ≡ filter p xs
-filter_passed p x xs e = ap (λ b. cond b (x ∷ filter p xs) (filter p xs)) e
-
-filter_twice : {A : Type 0} (p : A → Bool) (xs : List A) → filter p (filter p xs) ≡ filter p xs
-filter_twice p [] = refl
-filter_twice p (x ∷ xs) = go (p x) refl (filter_twice p xs)
-  where
-    go : (b : Bool) → p x ≡ b → filter p (filter p xs) ≡ filter p xs → filter p (filter p (x ∷ xs)) ≡ filter p (x ∷ xs)
-    go true e h = ap (filter p) (filter_kept p x xs e) ∙ filter_kept p x (filter p xs) e ∙ ap (λ z. x ∷ z) h ∙ sym (filter_kept p x xs e)
-    go false e h = ap (filter p) (filter_passed p x xs e) ∙ h ∙ sym (filter_passed p x xs e)
-
-pub load_refusal-grammar_tokens : (ts : List ast.Token) → load_refusal (grammar_tokens ts) ≡ first_above 2000 empty_load (grammar_tokens ts)
-load_refusal-grammar_tokens ts = ap (first_above 2000 empty_load) (filter_twice (λ t. not (is_definition t.kind)) ts)

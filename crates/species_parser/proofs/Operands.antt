@@ -3,10 +3,11 @@ use Rattle.std.proofs.Common.{◌≡◌, ◌∙◌, ap, sym, refl, subst, ℕ, z
 use Rattle.species_grammar.specs.Reader.{Reader, is_of, starts, word, both, mapped, choose, skip, ends, maybe}
 use Rattle.species_grammar.specs.Lawful.{Spelled, Before, Lawful, plain, word_spelled, both_before, both_spelled, mapped_before, mapped_spelled, choose_before, choose_spelled, skip_before, skip_spelled, ends_before, ends_spelled, maybe_before, maybe_spelled, Short, many_before, many_spelled}
 use Rattle.species_grammar.proofs.Laws.{recast_plain, both_lawful, mapped_lawful, word_lawful, choose_lawful, skip_lawful, ends_lawful, maybe_lawful, many_lawful, shallow_lawful, its_own}
+use Rattle.species_ast.specs.Signs.{raw_unary_sign}
 use Rattle.species_ast.specs.Token.{Token}
 use Rattle.species_ast.specs.Spelling.{Spelling}
-use Rattle.species_ast.specs.Grammar.Words.{punctuator, name, number}
-use Rattle.species_ast.specs.Grammar.Expressions.{TypeSpecifier, Operation, level_of, binary_sign, unary_sign, expression, place_of, target, Expression, Subscripts, Target}
+use Rattle.species_ast.specs.Grammar.Words.{sign, punctuator, name, number}
+use Rattle.species_ast.specs.Grammar.Expressions.{TypeSpecifier, Operation, level_of, operation_sign, expression, place_of, target, Expression, Subscripts, Target}
 use Rattle.species_ast.specs.declared.tree.Kind.{Kind}
 use Rattle.species_ast.specs.declared.tree.Value.{Value}
 use Rattle.species_ast.specs.declared.tree.Binary.TheVariants as binary
@@ -66,7 +67,7 @@ module _ (m : ℕ) (e : Reader Token RawExpr) (l : ExprLaw m 0 e) where
 -- ---- what an operand is
 
 data Operand : RawExpr → List Token → Type 0 where
-  unary : (p : ℕ) (o : RawUnary) (x : RawExpr) (xs : List Token) → Expression 11 x xs → Operand (expression p (term.Unary o x)) (punctuator p (unary_sign o) ∷ xs)
+  unary : (p : ℕ) (o : RawUnary) (x : RawExpr) (xs : List Token) → Expression 11 x xs → Operand (expression p (term.Unary o x)) (sign p (raw_unary_sign o) ∷ xs)
   cast : (p q r : ℕ) (k : Kind) (x : RawExpr) (ks xs : List Token) → TypeSpecifier q k ks → Expression 11 x xs → Operand (expression p (term.Cast k x)) (punctuator p "(" ∷ ((ks ++ punctuator r ")" ∷ []) ++ xs))
   constant : (n : Spelling) (v : Value) → Operand (expression n.place (term.Number v)) (number n v ∷ [])
   element : (n : Spelling) (subs : List RawExpr) (ts : List Token) → Subscripts subs ts → Operand (expression n.place (term.Target (target n subs))) (name n ∷ ts)
@@ -125,7 +126,7 @@ operand_from n x ts (Expression.higher m y ys d) lo = let lo' : 11 ≤ suc m = o
 -- no type begins where an expression does
 no_type : (n : ℕ) (x : RawExpr) (ts rest : List Token) → Expression n x ts → starts is_type (ts ++ rest) ≡ false
 no_type n x ts rest (Expression.conditional p q c y z cs ys zs d e f) = ap (starts is_type) (append_assoc cs (punctuator p "?" ∷ (ys ++ (punctuator q ":" ∷ zs))) rest) ∙ no_type 1 c cs ((punctuator p "?" ∷ (ys ++ (punctuator q ":" ∷ zs))) ++ rest) d
-no_type n x ts rest (Expression.binary_operation p o y z ys zs d e) = ap (starts is_type) (append_assoc ys (punctuator p (binary_sign o) ∷ zs) rest) ∙ no_type (level_of o) y ys ((punctuator p (binary_sign o) ∷ zs) ++ rest) d
+no_type n x ts rest (Expression.binary_operation p o y z ys zs d e) = ap (starts is_type) (append_assoc ys (sign p (operation_sign o) ∷ zs) rest) ∙ no_type (level_of o) y ys ((sign p (operation_sign o) ∷ zs) ++ rest) d
 no_type n x ts rest (Expression.unary_operation p o y ys d) = refl
 no_type n x ts rest (Expression.cast p q r k y ks ys kd d) = refl
 no_type n x ts rest (Expression.constant m v) = refl
@@ -184,7 +185,7 @@ module _ (n : ℕ) (u e : Reader Token RawExpr) (lu : ExprLaw n 11 u) (le : Expr
   operand_full x front rest (Operand.constant m v) lt h = inl (refl, ((m, v), refl, refl))
   operand_full x front rest (Operand.unary p o y ys d) lt h =
       let len : length ys < n = omega (arith, lt) in
-      inr (refl, inl (its_own unary_operators unary_is_word (p, o), (((p, o), y), refl, (punctuator p (unary_sign o) ∷ [], ys, refl, refl, (d, len, h)))))
+      inr (refl, inl (its_own unary_operators unary_is_word (p, o), (((p, o), y), refl, (sign p (raw_unary_sign o) ∷ [], ys, refl, refl, (d, len, h)))))
   operand_full x front rest (Operand.cast p q r k y ks ys kd d) lt h =
       let l0 = length-append (ks ++ punctuator r ")" ∷ []) ys in
       let len : length ys < n = omega (arith, lt, l0) in

@@ -1,10 +1,11 @@
 -- The place of an expression is that of its first token, and of a statement that of its first token after any pragma.
 use Rattle.std.proofs.Common.{ap, sym, refl, subst, ℕ, suc, List, [], ◌∷◌, ◌++◌, Bool, append_assoc}
+use Rattle.species_ast.specs.Signs.{assignment_sign}
 use Rattle.species_ast.specs.Token.{Token}
-use Rattle.species_ast.specs.Grammar.Words.{punctuator}
+use Rattle.species_ast.specs.Grammar.Words.{sign, punctuator}
 use Rattle.species_ast.specs.Grammar.Expressions.{TypeSpecifier, place_of, Expression, Target}
 use Rattle.species_ast.specs.Grammar.Declarations.{LocalDeclaration}
-use Rattle.species_ast.specs.Grammar.Statements.{target_place, assignment_sign, Change, SpeciesLine, ParallelLine, Statement}
+use Rattle.species_ast.specs.Grammar.Statements.{target_place, Change, SpeciesLine, ParallelLine, Statement}
 use Rattle.species_ast.specs.declared.tree.Kind.{Kind}
 use Rattle.species_ast.specs.declared.raw.RawExpr.{RawExpr}
 use Rattle.species_ast.specs.declared.raw.RawTarget.{RawTarget}
@@ -33,7 +34,7 @@ target_at : (t : RawTarget) (ts us : List Token) → Target t ts → StartsAt (t
 target_at t ts us (Target.element m subs vs s) = ap (λ z. z.name.place) (sym (out-roll-RawTarget (record { name = m; subs = subs })))
 
 change_at : (p : ℕ) (c : RawChange) (cs us : List Token) → Change p c cs → StartsAt p (after_pragmas (cs ++ us))
-change_at p c cs us (Change.set q o t x ts xs d e) = subst (λ z. StartsAt p (after_pragmas z)) (sym (append_assoc ts (punctuator q (assignment_sign o) ∷ xs) us)) (target_at t ts _ d)
+change_at p c cs us (Change.set q o t x ts xs d e) = subst (λ z. StartsAt p (after_pragmas z)) (sym (append_assoc ts (sign q (assignment_sign o) ∷ xs) us)) (target_at t ts _ d)
 change_at p c cs us (Change.up q t ts d) = subst (λ z. StartsAt p (after_pragmas z)) (sym (append_assoc ts (punctuator q "++" ∷ []) us)) (target_at t ts _ d)
 change_at p c cs us (Change.down q t ts d) = subst (λ z. StartsAt p (after_pragmas z)) (sym (append_assoc ts (punctuator q "--" ∷ []) us)) (target_at t ts _ d)
 change_at p c cs us (Change.up_before q t ts d) = refl
@@ -55,6 +56,8 @@ type_at : (p : ℕ) (k : Kind) (ks us : List Token) → TypeSpecifier p k ks →
 type_at p k ks us (TypeSpecifier.int o) = refl
 type_at p k ks us (TypeSpecifier.unsigned o) = refl
 type_at p k ks us (TypeSpecifier.unsigned_int o r) = refl
+type_at p k ks us (TypeSpecifier.long o r i ts m) = refl
+type_at p k ks us (TypeSpecifier.unsigned_long o r s i ts m) = refl
 
 pub declaration_place : (s : RawStmt) (ts : List Token) → LocalDeclaration s ts → StartsAt (statement_place_of s) ts
 declaration_place s ts (LocalDeclaration.declaration p q k l rest ks xs us kd d ds) = type_at p k ks _ kd

@@ -141,14 +141,14 @@ pub statement_long : (o : Bool) (x : RawStmt) (ts : List Token) → Statement o 
 statement_long o x ts d = long ts (statement_starts (λ t. true) true any_token o x ts [] d)
 
 pub declaration_long : (x : RawStmt) (ts : List Token) → LocalDeclaration x ts → 1 ≤ length ts
-declaration_long x ts d = long ts (declaration_starts (λ t. true) true (λ p. refl) (λ p. refl) x ts [] d)
+declaration_long x ts d = long ts (declaration_starts (λ t. true) true (λ p. refl) (λ p. refl) (λ p. refl) x ts [] d)
 
 -- ---- blocks
 
 items_no_else : (xs : List RawStmt) (us rest : List Token) → BlockItems xs us → NoElse (us ++ rest)
 items_no_else xs us rest (BlockItems.end p) = refl
 items_no_else xs us rest (BlockItems.item o x ys ts vs d ds) = ap (starts (is_the_keyword "else")) (append_assoc ts vs rest) ∙ statement_starts (is_the_keyword "else") false not_else o x ts (vs ++ rest) d
-items_no_else xs us rest (BlockItems.declaration x ys ts vs d ds) = ap (starts (is_the_keyword "else")) (append_assoc ts vs rest) ∙ declaration_starts (is_the_keyword "else") false (λ p. refl) (λ p. refl) x ts (vs ++ rest) d
+items_no_else xs us rest (BlockItems.declaration x ys ts vs d ds) = ap (starts (is_the_keyword "else")) (append_assoc ts vs rest) ∙ declaration_starts (is_the_keyword "else") false (λ p. refl) (λ p. refl) (λ p. refl) x ts (vs ++ rest) d
 
 items_short : (ys : List RawStmt) (us : List Token) → BlockItems ys us → length ys < length us
 items_short ys us (BlockItems.end p) = omega arith
@@ -188,10 +188,10 @@ items_full n xs front rest (BlockItems.declaration x ys ts us d ds) lt =
     let l2 : length us < n = omega (arith, lt, l0) in
     let m = items_full n ys us rest ds l2 in
     let short : length (x ∷ ys) < n = omega (arith, lt, l0, one, few) in
-    (short, (ts, us, refl, inl (declaration_starts is_type true (λ p. refl) (λ p. refl) x ts (us ++ rest) d, (d, l1)), m.1))
+    (short, (ts, us, refl, inl (declaration_starts is_type true (λ p. refl) (λ p. refl) (λ p. refl) x ts (us ++ rest) d, (d, l1)), m.1))
 
 item_not_end : (n : ℕ) (x : RawStmt) (a rest : List Token) → ItemF n x a rest → starts (is_the_punctuator "}") (a ++ rest) ≡ false
-item_not_end n x a rest (inl (h, (d, lt))) = declaration_starts (is_the_punctuator "}") false (λ p. refl) (λ p. refl) x a rest d
+item_not_end n x a rest (inl (h, (d, lt))) = declaration_starts (is_the_punctuator "}") false (λ p. refl) (λ p. refl) (λ p. refl) x a rest d
 item_not_end n x a rest (inr (h, (o, d, k, lt))) = statement_starts (is_the_punctuator "}") false not_end o x a rest d
 
 -- ---- the alternatives

@@ -83,14 +83,16 @@ unit_viable x front (inr (p, y, (bs, f0, i0, bd, inr (h, e, (gs, ts, i1, gd, ud)
 
 -- ---- how a unit begins
 
-type_starts : (c : Token → Bool) (b : Bool) → ((p : ℕ) → c (keyword p "int") ≡ b) → ((p : ℕ) → c (keyword p "unsigned") ≡ b) → (p : ℕ) (k : Kind) (ks rest : List Token) → TypeSpecifier p k ks → starts c (ks ++ rest) ≡ b
-type_starts c b i u p k ks rest (TypeSpecifier.int o) = i o
-type_starts c b i u p k ks rest (TypeSpecifier.unsigned o) = u o
-type_starts c b i u p k ks rest (TypeSpecifier.unsigned_int o r) = u o
+type_starts : (c : Token → Bool) (b : Bool) → ((p : ℕ) → c (keyword p "int") ≡ b) → ((p : ℕ) → c (keyword p "unsigned") ≡ b) → ((p : ℕ) → c (keyword p "long") ≡ b) → (p : ℕ) (k : Kind) (ks rest : List Token) → TypeSpecifier p k ks → starts c (ks ++ rest) ≡ b
+type_starts c b i u l p k ks rest (TypeSpecifier.int o) = i o
+type_starts c b i u l p k ks rest (TypeSpecifier.unsigned o) = u o
+type_starts c b i u l p k ks rest (TypeSpecifier.unsigned_int o r) = u o
+type_starts c b i u l p k ks rest (TypeSpecifier.long o r s ts m) = l o
+type_starts c b i u l p k ks rest (TypeSpecifier.unsigned_long o r s j ts m) = u o
 
-global_starts : (c : Token → Bool) (b : Bool) → ((p : ℕ) → c (keyword p "int") ≡ b) → ((p : ℕ) → c (keyword p "unsigned") ≡ b) → (x : RawItem) (ts rest : List Token) → GlobalDeclaration x ts → starts c (ts ++ rest) ≡ b
-global_starts c b i u x ts rest (GlobalDeclaration.global p q k a more ks us ws kd d ds) =
-    ap (starts c) (append_assoc ks ((us ++ ws) ++ punctuator q ";" ∷ []) rest) ∙ type_starts c b i u p k ks (((us ++ ws) ++ punctuator q ";" ∷ []) ++ rest) kd
+global_starts : (c : Token → Bool) (b : Bool) → ((p : ℕ) → c (keyword p "int") ≡ b) → ((p : ℕ) → c (keyword p "unsigned") ≡ b) → ((p : ℕ) → c (keyword p "long") ≡ b) → (x : RawItem) (ts rest : List Token) → GlobalDeclaration x ts → starts c (ts ++ rest) ≡ b
+global_starts c b i u l x ts rest (GlobalDeclaration.global p q k a more ks us ws kd d ds) =
+    ap (starts c) (append_assoc ks ((us ++ ws) ++ punctuator q ";" ∷ []) rest) ∙ type_starts c b i u l p k ks (((us ++ ws) ++ punctuator q ";" ∷ []) ++ rest) kd
 
 optional_starts : (c : Token → Bool) (b : Bool) (s : String) (o : Bool) (bs us : List Token) → Optional s o bs → ((p : ℕ) → c (keyword p s) ≡ b) → starts c us ≡ b → starts c (bs ++ us) ≡ b
 optional_starts c b s o bs us Optional.absent h k = k
@@ -101,7 +103,7 @@ long [] h = absurd (clash (sym h))
 long (t ∷ ts) h = omega arith
 
 pub global_long : (x : RawItem) (ts : List Token) → GlobalDeclaration x ts → 1 ≤ length ts
-global_long x ts d = long ts (global_starts (λ t. true) true (λ p. refl) (λ p. refl) x ts [] d)
+global_long x ts d = long ts (global_starts (λ t. true) true (λ p. refl) (λ p. refl) (λ p. refl) x ts [] d)
 
 pub unit_long : (x : RawUnit) (ts : List Token) → TranslationUnit x ts → 1 ≤ length ts
 unit_long x ts (TranslationUnit.directive n u us d) = omega arith
@@ -119,11 +121,11 @@ unit_full n x front rest (TranslationUnit.global b g u bs gs ts bd gd ud) lt =
     let lu = unit_long u ts ud in
     let mg : length gs < n = omega (arith, lt, l0, l1, lu) in
     let mu : length ts < n = omega (arith, lt, l0, l1, lg) in
-    let begins = λ (c : Token → Bool) (i : (p : ℕ) → c (keyword p "int") ≡ false) (w : (p : ℕ) → c (keyword p "unsigned") ≡ false). ap (starts c) (append_assoc gs ts rest) ∙ global_starts c false i w g gs (ts ++ rest) gd in
-    let o = optional_full "static" b bs ((gs ++ ts) ++ rest) bd (begins (is_the_keyword "static") (λ p. refl) (λ p. refl)) in
+    let begins = λ (c : Token → Bool) (i : (p : ℕ) → c (keyword p "int") ≡ false) (w : (p : ℕ) → c (keyword p "unsigned") ≡ false) (l : (p : ℕ) → c (keyword p "long") ≡ false). ap (starts c) (append_assoc gs ts rest) ∙ global_starts c false i w l g gs (ts ++ rest) gd in
+    let o = optional_full "static" b bs ((gs ++ ts) ++ rest) bd (begins (is_the_keyword "static") (λ p. refl) (λ p. refl) (λ p. refl)) in
     inr (
-      ap (starts (is_of includes)) (append_assoc bs (gs ++ ts) rest) ∙ optional_starts (is_of includes) false "static" b bs ((gs ++ ts) ++ rest) bd (λ p. refl) (begins (is_of includes) (λ p. refl) (λ p. refl)),
-      ((o.0, after g u), refl, (bs, gs ++ ts, refl, o.2, inr (begins (is_the_keyword "void") (λ p. refl) (λ p. refl), ((g, u), refl, (gs, ts, refl, (gd, mg), (ud, mu)))))),
+      ap (starts (is_of includes)) (append_assoc bs (gs ++ ts) rest) ∙ optional_starts (is_of includes) false "static" b bs ((gs ++ ts) ++ rest) bd (λ p. refl) (begins (is_of includes) (λ p. refl) (λ p. refl) (λ p. refl)),
+      ((o.0, after g u), refl, (bs, gs ++ ts, refl, o.2, inr (begins (is_the_keyword "void") (λ p. refl) (λ p. refl) (λ p. refl), ((g, u), refl, (gs, ts, refl, (gd, mg), (ud, mu)))))),
     )
 unit_full n x front rest (TranslationUnit.function b c p q r s f body bs cs ts bd cd d) lt =
     let f4 : List Token = punctuator r ")" ∷ punctuator s "{" ∷ ts in

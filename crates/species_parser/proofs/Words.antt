@@ -6,11 +6,11 @@ use Rattle.std.proofs.lemmas.Bool.{eqb-true, eq-eqb}
 use Prim.Native.String.{String}
 use Rattle.species_grammar.specs.Reader.{Word}
 use Rattle.species_grammar.specs.Lawful.{IsWord}
+use Rattle.species_ast.specs.Signs.{all_assignments, all_raw_unary, all_tests, assignment_sign, find_sign, raw_unary_sign, test_sign}
 use Rattle.species_ast.specs.Token.{Token}
 use Rattle.species_ast.specs.Spelling.{Spelling}
-use Rattle.species_ast.specs.Grammar.Words.{punctuator, name, number, include, species, parallel, atomic}
-use Rattle.species_ast.specs.Grammar.Expressions.{Operation, binary_sign, unary_sign, level_of}
-use Rattle.species_ast.specs.Grammar.Statements.{assignment_sign, test_sign}
+use Rattle.species_ast.specs.Grammar.Words.{sign, punctuator, name, number, include, species, parallel, atomic}
+use Rattle.species_ast.specs.Grammar.Expressions.{Operation, operation_sign, level_of}
 use Rattle.species_ast.specs.declared.token.TokenKind.{TokenKind}
 use Rattle.species_ast.specs.declared.token.TokenKind.TheVariants as token
 use Rattle.species_ast.specs.declared.tree.Value.{Value}
@@ -24,7 +24,7 @@ use Rattle.species_ast.specs.declared.raw.RawUnary.{RawUnary}
 use Rattle.species_ast.specs.declared.raw.RawUnary.TheVariants as unary
 use Rattle.species_ast.specs.declared.raw.RawOp.{RawOp}
 use Rattle.species_ast.specs.declared.raw.RawOp.TheVariants as op
-use Rattle.species_parser.specs.Words.{is_punctuator, is_keyword, when, spelling_of, the_punctuator, the_keyword, find_sign, placed, one_of, all_unary, unary_operators, all_operations, binary_operators, of_level, operators_at, all_assignments, assignment_operators, all_tests, tests, name_in, names, number_in, numbers, include_in, includes, species_in, species_lines, parallel_in, parallel_lines, atomic_in, atomic_lines, is_the_punctuator}
+use Rattle.species_parser.specs.Words.{is_punctuator, is_keyword, when, spelling_of, the_punctuator, the_keyword, placed, one_of, unary_operators, all_operations, binary_operators, of_level, operators_at, assignment_operators, tests, name_in, names, number_in, numbers, include_in, includes, species_in, species_lines, parallel_in, parallel_lines, atomic_in, atomic_lines, is_the_punctuator}
 
 token_is : (t : Token) (p : ℕ) (s : List ℕ) (k : TokenKind) → t.place ≡ p → t.text ≡ s → t.kind ≡ k → t ≡ record { place = p; text = s; kind = k }
 token_is t p s k e f g = ap (λ z. record { place = z; text = t.text; kind = t.kind }) e ∙ ap (λ z. record { place = p; text = z; kind = t.kind }) f ∙ ap (λ z. record { place = p; text = s; kind = z }) g
@@ -70,12 +70,12 @@ keyword_is_word s = record {
 same_some : {A : Type 0} (x y : A) → Some x ≡ Some y → x ≡ y
 same_some x y h = cc
 
-found_is : {O : Type 0} (sign : O → String) (all : List O) (text : List ℕ) (o : O) → find_sign sign all text ≡ Some o → text ≡ codes (sign o)
-found_is sign [] text o h = cc
-found_is {O} sign (x ∷ xs) text o h = go (found_is sign xs text o) (bytes_eq text (codes (sign x))) refl h
+found_is : {O : Type 0} (spell : O → List ℕ) (all : List O) (text : List ℕ) (o : O) → find_sign spell all text ≡ Some o → text ≡ spell o
+found_is spell [] text o h = cc
+found_is {O} spell (x ∷ xs) text o h = go (found_is spell xs text o) (bytes_eq text (spell x)) refl h
   where
-    go : (find_sign sign xs text ≡ Some o → text ≡ codes (sign o)) → (b : Bool) → bytes_eq text (codes (sign x)) ≡ b → (if b then Some x else find_sign sign xs text) ≡ Some o → text ≡ codes (sign o)
-    go more true e d = (bytes_eq-Decides text (codes (sign x))).0 e ∙ ap (λ z. codes (sign z)) (same_some x o d)
+    go : (find_sign spell xs text ≡ Some o → text ≡ spell o) → (b : Bool) → bytes_eq text (spell x) ≡ b → (if b then Some x else find_sign spell xs text) ≡ Some o → text ≡ spell o
+    go more true e d = (bytes_eq-Decides text (spell x)).0 e ∙ ap (λ z. spell z) (same_some x o d)
     go more false e d = more d
 
 placed_is : {O : Type 0} (p q : ℕ) (b : Bool) (o : Option O) (x : O) → placed p b o ≡ Some (q, x) → (p ≡ q) × (b ≡ true) × (o ≡ Some x)
@@ -83,25 +83,25 @@ placed_is p q true (Some y) x h = let e = same_some (p, y) (q, x) h in (ap (λ z
 placed_is p q true None x h = cc
 placed_is p q false o x h = cc
 
-pub table_is_word : {O : Type 0} (sign : O → String) (all : List O) (some : O) → ((o : O) → find_sign sign all (codes (sign o)) ≡ Some o) → IsWord (one_of sign all)
-table_is_word sign all some own = record {
+pub table_is_word : {O : Type 0} (spell : O → List ℕ) (all : List O) (some : O) → ((o : O) → find_sign spell all (spell o) ≡ Some o) → IsWord (one_of spell all)
+table_is_word spell all some own = record {
   is = λ t p h.
-      let e = placed_is t.place p.0 (is_punctuator t.kind) (find_sign sign all t.text) p.1 h in
-      token_is t p.0 (codes (sign p.1)) token.Punct e.0 (found_is sign all t.text p.1 e.2) (punctuator_is t.kind e.1);
+      let e = placed_is t.place p.0 (is_punctuator t.kind) (find_sign spell all t.text) p.1 h in
+      token_is t p.0 (spell p.1) token.Punct e.0 (found_is spell all t.text p.1 e.2) (punctuator_is t.kind e.1);
   own = λ p. ap (placed p.0 true) (own p.1);
   some = (0, some);
 }
 
-unary_own : (o : RawUnary) → find_sign unary_sign all_unary (codes (unary_sign o)) ≡ Some o
+unary_own : (o : RawUnary) → find_sign raw_unary_sign all_raw_unary (raw_unary_sign o) ≡ Some o
 unary_own unary.Neg = refl
 unary_own unary.Plus = refl
 unary_own unary.Not = refl
 unary_own unary.LogNot = refl
 
 pub unary_is_word : IsWord unary_operators
-unary_is_word = table_is_word unary_sign all_unary unary.Neg unary_own
+unary_is_word = table_is_word raw_unary_sign all_raw_unary unary.Neg unary_own
 
-binary_own : (o : Operation) → find_sign binary_sign all_operations (codes (binary_sign o)) ≡ Some o
+binary_own : (o : Operation) → find_sign operation_sign all_operations (operation_sign o) ≡ Some o
 binary_own (Operation.strict binary.Mul) = refl
 binary_own (Operation.strict binary.Div) = refl
 binary_own (Operation.strict binary.Rem) = refl
@@ -122,9 +122,9 @@ binary_own Operation.logical_and = refl
 binary_own Operation.logical_or = refl
 
 pub binary_is_word : IsWord binary_operators
-binary_is_word = table_is_word binary_sign all_operations Operation.logical_or binary_own
+binary_is_word = table_is_word operation_sign all_operations Operation.logical_or binary_own
 
-assignment_own : (o : RawOp) → find_sign assignment_sign all_assignments (codes (assignment_sign o)) ≡ Some o
+assignment_own : (o : RawOp) → find_sign assignment_sign all_assignments (assignment_sign o) ≡ Some o
 assignment_own op.Plain = refl
 assignment_own op.Add = refl
 assignment_own op.Sub = refl
@@ -140,7 +140,7 @@ assignment_own op.Shr = refl
 pub assignment_is_word : IsWord assignment_operators
 assignment_is_word = table_is_word assignment_sign all_assignments op.Plain assignment_own
 
-test_own : (o : Test) → find_sign test_sign all_tests (codes (test_sign o)) ≡ Some o
+test_own : (o : Test) → find_sign test_sign all_tests (test_sign o) ≡ Some o
 test_own test.Lt = refl
 test_own test.Le = refl
 test_own test.Gt = refl
@@ -160,10 +160,10 @@ of_level_is n (Some q) p h = go (nat_eq (level_of q.1) n) refl h
     go false e d = cc
 
 -- an operator of a level is a punctuator
-pub operator_is : (n : ℕ) (t : Token) (p : ℕ × Operation) → operators_at n t ≡ Some p → (t ≡ punctuator p.0 (binary_sign p.1)) × (level_of p.1 ≡ n)
+pub operator_is : (n : ℕ) (t : Token) (p : ℕ × Operation) → operators_at n t ≡ Some p → (t ≡ sign p.0 (operation_sign p.1)) × (level_of p.1 ≡ n)
 operator_is n t p h = let e = of_level_is n (binary_operators.says t) p h in (binary_is_word.is t p e.0, e.1)
 
-pub operator_own : (p : ℕ) (o : Operation) → operators_at (level_of o) (punctuator p (binary_sign o)) ≡ Some (p, o)
+pub operator_own : (p : ℕ) (o : Operation) → operators_at (level_of o) (sign p (operation_sign o)) ≡ Some (p, o)
 operator_own p o = ap (of_level (level_of o)) (binary_is_word.own (p, o)) ∙ ap (λ b. when b (p, o)) (eq-eqb (level_of o) (level_of o) refl)
 
 pub operator_says : (n : ℕ) (t : Token) (p : ℕ × Operation) → operators_at n t ≡ Some p → binary_operators.says t ≡ Some p

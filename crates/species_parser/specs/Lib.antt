@@ -6,6 +6,5 @@ pub mod Parsing
 pub mod Operators
 pub mod Headers
 pub mod Listed
-pub mod Loaded
 pub mod Parsed
 pub mod Finished

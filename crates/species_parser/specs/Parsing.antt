@@ -1,9 +1,9 @@
 -- The readers of the grammar without a bound on depth: what the parser's functions answer.
 use Rattle.std.specs.Prelude.{Bool, ℕ, suc, ◌-◌, List, ◌++◌, is_some, Option, Some, None}
 use Rattle.species_grammar.specs.Reader.{Answer, Reader, ◌>>=◌, is_of, one, word, nothing, both, mapped, choose, skip, maybe, maybe_word, cons_of, bound, ends, deep, repeated, closed, level_tail}
+use Rattle.species_ast.specs.Signs.{multiplicative_level}
 use Rattle.species_ast.specs.Token.{Token}
 use Rattle.species_ast.specs.Spelling.{Spelling}
-use Rattle.species_ast.specs.Grammar.Expressions.{multiplicative_level}
 use Rattle.species_ast.specs.Grammar.Statements.{Header, target_place}
 use Rattle.species_ast.specs.declared.tree.Test.{Test}
 use Rattle.species_ast.specs.declared.raw.RawExpr.{RawExpr}

@@ -37,12 +37,27 @@ use Rattle.species_parser.specs.Words.{the_punctuator, the_keyword, unary_operat
 abbrev pub of_kind : Kind → ℕ → ℕ × Kind
 of_kind k p = (p, k)
 
-abbrev pub unsigned_of : ℕ × Option ℕ → ℕ × Kind
-unsigned_of p = (p.0, kind.Unsigned)
+abbrev pub first_place : ℕ × (ℕ × Option ℕ) → ℕ
+first_place p = p.0
 
--- `int`, `unsigned` or `unsigned int`, with the place of the first word
-abbrev pub type_reader : Reader Token (ℕ × Kind)
-type_reader = choose (is_the_keyword "int") (mapped (of_kind kind.Int) (word (the_keyword "int"))) (mapped unsigned_of (both (word (the_keyword "unsigned")) (maybe_word (the_keyword "int"))))
+abbrev pub unsigned_of : Option ℕ → Kind
+unsigned_of p = kind.Unsigned
+
+abbrev pub unsigned_long_of : ℕ → Kind
+unsigned_long_of p = kind.UnsignedLong
+
+-- `long long`, with the place of the first word; `int` may stand behind it
+unfoldable pub long_words : Reader Token ℕ
+long_words = mapped first_place (both (word (the_keyword "long")) (both (word (the_keyword "long")) (maybe_word (the_keyword "int"))))
+
+-- what stands behind `unsigned`
+unfoldable pub unsigned_tail : Reader Token Kind
+unsigned_tail = choose (is_the_keyword "long") (mapped unsigned_long_of long_words) (mapped unsigned_of (maybe_word (the_keyword "int")))
+
+-- a type, with the place of its first word
+unfoldable pub type_reader : Reader Token (ℕ × Kind)
+type_reader = choose (is_the_keyword "int") (mapped (of_kind kind.Int) (word (the_keyword "int")))
+    (choose (is_the_keyword "unsigned") (both (word (the_keyword "unsigned")) unsigned_tail) (mapped (of_kind kind.Long) long_words))
 
 -- ---- expressions
 

@@ -1,23 +1,19 @@
 -- The classes of tokens that the readers tell apart.
-use Rattle.std.specs.Prelude.{ℕ, List, [], ◌∷◌, Bool, true, false, ◌&&◌, ◌||◌, Option, Some, None, if◌then◌else◌, codes, bytes_eq, nat_eq, nat_le}
+use Rattle.std.specs.Prelude.{ℕ, List, [], ◌∷◌, ◌++◌, map, Bool, true, false, ◌&&◌, ◌||◌, Option, Some, None, if◌then◌else◌, codes, bytes_eq, nat_eq, nat_le}
 use Prim.Native.String.{String}
 use Rattle.species_grammar.specs.Reader.{Word, is_of}
 use Rattle.species_ast.specs.Token.{Token}
 use Rattle.species_ast.specs.Spelling.{Spelling}
-use Rattle.species_ast.specs.Grammar.Words.{punctuator, name, number, include, species, parallel, atomic}
-use Rattle.species_ast.specs.Grammar.Expressions.{Operation, binary_sign, unary_sign, level_of}
-use Rattle.species_ast.specs.Grammar.Statements.{assignment_sign, test_sign}
+use Rattle.species_ast.specs.Signs.{find_sign, raw_unary_sign, all_raw_unary, all_binary, assignment_sign, all_assignments, test_sign, all_tests}
+use Rattle.species_ast.specs.Grammar.Words.{sign, punctuator, name, number, include, species, parallel, atomic}
+use Rattle.species_ast.specs.Grammar.Expressions.{Operation, operation_sign, level_of}
 use Rattle.species_ast.specs.declared.token.TokenKind.{TokenKind}
 use Rattle.species_ast.specs.declared.token.TokenKind.TheVariants as token
 use Rattle.species_ast.specs.declared.tree.Value.{Value}
 use Rattle.species_ast.specs.declared.tree.Schedule.{Schedule}
-use Rattle.species_ast.specs.declared.tree.Binary.TheVariants as binary
 use Rattle.species_ast.specs.declared.tree.Test.{Test}
-use Rattle.species_ast.specs.declared.tree.Test.TheVariants as test
 use Rattle.species_ast.specs.declared.raw.RawUnary.{RawUnary}
-use Rattle.species_ast.specs.declared.raw.RawUnary.TheVariants as unary
 use Rattle.species_ast.specs.declared.raw.RawOp.{RawOp}
-use Rattle.species_ast.specs.declared.raw.RawOp.TheVariants as op
 
 -- kinds of tokens
 abbrev pub is_punctuator : TokenKind → Bool
@@ -55,11 +51,6 @@ the_keyword s = keyword_of (codes s)
 
 -- ---- one of a table of punctuators
 
--- the first of them that is spelled so
-abbrev pub find_sign : {O : Type 0} → (O → String) → List O → List ℕ → Option O
-find_sign sign [] text = None
-find_sign sign (o ∷ os) text = if bytes_eq text (codes (sign o)) then Some o else find_sign sign os text
-
 -- what a punctuator stands for, with its place
 abbrev pub placed : {O : Type 0} → ℕ → Bool → Option O → Option (ℕ × O)
 placed p true (Some o) = Some (p, o)
@@ -67,27 +58,20 @@ placed p true None = None
 placed p false o = None
 
 -- one of these punctuators, each by its spelling
-abbrev pub one_of : {O : Type 0} → (O → String) → List O → Word Token (ℕ × O)
-one_of sign all = record { says = λ t. placed t.place (is_punctuator t.kind) (find_sign sign all t.text); token = λ p. punctuator p.0 (sign p.1) }
-
--- the operators of C17 6.5.3.3 that the language has
-abbrev pub all_unary : List RawUnary
-all_unary = unary.Neg ∷ unary.Plus ∷ unary.Not ∷ unary.LogNot ∷ []
+abbrev pub one_of : {O : Type 0} → (O → List ℕ) → List O → Word Token (ℕ × O)
+one_of spell all = record { says = λ t. placed t.place (is_punctuator t.kind) (find_sign spell all t.text); token = λ p. sign p.0 (spell p.1) }
 
 -- a unary operator with its place
 abbrev pub unary_operators : Word Token (ℕ × RawUnary)
-unary_operators = one_of unary_sign all_unary
+unary_operators = one_of raw_unary_sign all_raw_unary
 
 -- the binary operators of C17 6.5.5 to 6.5.14
 abbrev pub all_operations : List Operation
-all_operations =
-    Operation.strict binary.Mul ∷ Operation.strict binary.Div ∷ Operation.strict binary.Rem ∷ Operation.strict binary.Add ∷ Operation.strict binary.Sub ∷ Operation.strict binary.Shl
-    ∷ Operation.strict binary.Shr ∷ Operation.strict binary.Lt ∷ Operation.strict binary.Le ∷ Operation.strict binary.Gt ∷ Operation.strict binary.Ge ∷ Operation.strict binary.Eq
-    ∷ Operation.strict binary.Ne ∷ Operation.strict binary.BitAnd ∷ Operation.strict binary.BitXor ∷ Operation.strict binary.BitOr ∷ Operation.logical_and ∷ Operation.logical_or ∷ []
+all_operations = map Operation.strict all_binary ++ (Operation.logical_and ∷ Operation.logical_or ∷ [])
 
 -- a binary operator of any level with its place
 abbrev pub binary_operators : Word Token (ℕ × Operation)
-binary_operators = one_of binary_sign all_operations
+binary_operators = one_of operation_sign all_operations
 
 -- only what has the level
 abbrev pub of_level : ℕ → Option (ℕ × Operation) → Option (ℕ × Operation)
@@ -98,19 +82,11 @@ of_level n None = None
 abbrev pub operators_at : ℕ → Token → Option (ℕ × Operation)
 operators_at n t = of_level n (binary_operators.says t)
 
--- the assignment operators of C17 6.5.16
-abbrev pub all_assignments : List RawOp
-all_assignments = op.Plain ∷ op.Add ∷ op.Sub ∷ op.Mul ∷ op.Div ∷ op.Rem ∷ op.BitAnd ∷ op.BitXor ∷ op.BitOr ∷ op.Shl ∷ op.Shr ∷ []
-
 -- an assignment operator with its place
 abbrev pub assignment_operators : Word Token (ℕ × RawOp)
 assignment_operators = one_of assignment_sign all_assignments
 
--- the comparisons that may stand in the header of a loop
-abbrev pub all_tests : List Test
-all_tests = test.Lt ∷ test.Le ∷ test.Gt ∷ test.Ge ∷ []
-
--- one of these comparisons with its place
+-- a comparison that may stand in the header of a loop, with its place
 abbrev pub tests : Word Token (ℕ × Test)
 tests = one_of test_sign all_tests
 
@@ -182,7 +158,7 @@ is_the_keyword s = is_of (the_keyword s)
 
 -- a type begins there
 abbrev pub is_type : Token → Bool
-is_type t = is_the_keyword "int" t || is_the_keyword "unsigned" t
+is_type t = is_the_keyword "int" t || (is_the_keyword "unsigned" t || is_the_keyword "long" t)
 
 -- a loop begins there
 abbrev pub is_loop : Token → Bool

@@ -80,7 +80,7 @@ pub(crate) fn assignment<'a>(
     cursor.punctuator(b";")?;
     let assignment = RawStmt {
         place,
-        what: RawWhat::Change(change.into_inner()),
+        what: RawWhat::Change(change),
     };
     Ok(Boxed::new(alloc, assignment)?)
 }
@@ -100,12 +100,8 @@ pub(crate) fn atomic<'a>(
     cursor.punctuator(b"+=")?;
     let value = Boxed::new(alloc, expression(alloc, cursor)?)?;
     cursor.punctuator(b";")?;
-    let atomic = RawStmt {
-        place: target.get().name.place,
-        what: RawWhat::Atomic {
-            target: target.into_inner(),
-            value: value.into_inner(),
-        },
-    };
+    let place = target.get().name.place;
+    let what = RawWhat::Atomic { target, value };
+    let atomic = RawStmt { place, what };
     Ok(Boxed::new(alloc, atomic)?)
 }

@@ -9,7 +9,7 @@ ghost use Rattle.species_parser.specs.Given.{Gives, GivesSeen, seen_tokens};
 
 mod place;
 
-use crate::operators::{Operator, assignment_of, operator_of, test_of, unary_of};
+use crate::operators::{Operator, operator_of};
 use crate::stop::Stop;
 use species_ast::{RawName, RawOp, RawUnary, Schedule, Test, TokenKind, Value};
 use species_lexer::Token;
@@ -167,7 +167,7 @@ impl<'t, 'a> Cursor<'t, 'a> {
         ensures { result ≡ starts (is_of unary_operators) self.now }
     {
         match self.tokens {
-            [first, ..] => is_punctuator(first) && unary_of(first.text).is_some(),
+            [first, ..] => is_punctuator(first) && RawUnary::of_sign(first.text).is_some(),
             [] => false,
         }
     }
@@ -178,7 +178,7 @@ impl<'t, 'a> Cursor<'t, 'a> {
         ensures shorter { IfOk result (λ _. length self.new < length self.old) }
     {
         match self.tokens {
-            [first, rest @ ..] if is_punctuator(first) => match unary_of(first.text) {
+            [first, rest @ ..] if is_punctuator(first) => match RawUnary::of_sign(first.text) {
                 Some(operator) => {
                     self.tokens = rest;
                     Ok((first.place, operator))
@@ -190,7 +190,7 @@ impl<'t, 'a> Cursor<'t, 'a> {
     }
 
     /// Whether a binary operator of this level stands next.
-    pub(crate) fn is_at_binary_operator(&self, level: u32) -> bool
+    pub(crate) fn is_at_binary_operator(&self, level: u8) -> bool
         ensures { result ≡ starts (λ t. is_some (operators_at level t)) self.now }
     {
         match self.tokens {
@@ -203,7 +203,7 @@ impl<'t, 'a> Cursor<'t, 'a> {
     }
 
     /// The binary operator of this level that has to stand next.
-    pub(crate) fn binary_operator(&mut self, level: u32) -> Result<(u32, Operator), Stop>
+    pub(crate) fn binary_operator(&mut self, level: u8) -> Result<(u32, Operator), Stop>
         ensures value { GivesSeen (λ x. (x.0, seen_operator x.1)) result self.new (one (operators_at level) self.old) }
         ensures shorter { IfOk result (λ _. length self.new < length self.old) }
     {
@@ -225,7 +225,7 @@ impl<'t, 'a> Cursor<'t, 'a> {
         ensures shorter { IfOk result (λ _. length self.new < length self.old) }
     {
         match self.tokens {
-            [first, rest @ ..] if is_punctuator(first) => match assignment_of(first.text) {
+            [first, rest @ ..] if is_punctuator(first) => match RawOp::of_sign(first.text) {
                 Some(operator) => {
                     self.tokens = rest;
                     Ok((first.place, operator))
@@ -242,7 +242,7 @@ impl<'t, 'a> Cursor<'t, 'a> {
         ensures shorter { IfOk result (λ _. length self.new < length self.old) }
     {
         match self.tokens {
-            [first, rest @ ..] if is_punctuator(first) => match test_of(first.text) {
+            [first, rest @ ..] if is_punctuator(first) => match Test::of_sign(first.text) {
                 Some(test) => {
                     self.tokens = rest;
                     Ok((first.place, test))
@@ -375,6 +375,6 @@ impl<'t, 'a> Cursor<'t, 'a> {
     pub(crate) fn is_at_type(&self) -> bool
         ensures { result ≡ starts is_type self.now }
     {
-        self.is_at_keyword(b"int") || self.is_at_keyword(b"unsigned")
+        self.is_at_keyword(b"int") || self.is_at_keyword(b"unsigned") || self.is_at_keyword(b"long")
     }
 }

@@ -14,13 +14,13 @@ use sqlite_items::{Boxed, Items};
 use std::alloc::Global;
 
 /// The level of `||`, which binds least tightly.
-const LOWEST_LEVEL: u32 = 1;
+const LOWEST_LEVEL: u8 = 1;
 
 /// The level of `*`, `/` and `%`, which bind most tightly.
-const PRODUCT_LEVEL: u32 = 10;
+const PRODUCT_LEVEL: u8 = 10;
 
 /// The level of what has no binary operator outside of parentheses.
-const OPERAND_LEVEL: u32 = 11;
+const OPERAND_LEVEL: u8 = 11;
 
 /// What a conditional expression has behind its condition.
 type Choices<'a> = Option<(Boxed<RawExpr<'a>>, Boxed<RawExpr<'a>>)>;
@@ -89,7 +89,7 @@ pub(crate) fn product<'a>(alloc: Global, cursor: &mut Cursor<'_, 'a>) -> Result<
 
 /// An operand of the operators of this level, with all operators that bind more tightly.
 #[cycle(expressions)]
-fn binary<'a>(alloc: Global, cursor: &mut Cursor<'_, 'a>, level: u32) -> Result<RawExpr<'a>, Stop>
+fn binary<'a>(alloc: Global, cursor: &mut Cursor<'_, 'a>, level: u8) -> Result<RawExpr<'a>, Stop>
     requires least { 1 ≤ level }
     requires most { level ≤ 11 }
     ensures value { Gives result cursor.new (binary level cursor.old) }
@@ -109,7 +109,7 @@ fn binary<'a>(alloc: Global, cursor: &mut Cursor<'_, 'a>, level: u32) -> Result<
 fn binary_tail<'a>(
     alloc: Global,
     cursor: &mut Cursor<'_, 'a>,
-    level: u32,
+    level: u8,
     first: Boxed<RawExpr<'a>>,
 ) -> Result<Boxed<RawExpr<'a>>, Stop>
     requires least { 1 ≤ level }

@@ -1,16 +1,13 @@
-//! The load of a list of tokens: what an unfinished statement and the lists around it hold.
+//! The load of a list of tokens.
 ghost use Rattle.std.specs.Prelude.{◌≡◌, ◌<◌, ◌^◌, IfOk};
-ghost use Rattle.species_ast.specs.Text.Load.{spelling_of, is_spelled, is_else_next, first_above};
+ghost use Rattle.species_ast.specs.Text.Load.{spelling_of, is_spelled, is_else_next, no_load, load_refusal};
 ghost use Rattle.species_lexer.specs.Tokens.{seen_token};
 ghost use Rattle.species_parser.specs.Given.{seen_tokens};
-ghost use Rattle.species_parser.specs.Loaded.{empty_load};
 
+use species_ast::MOST_LOAD;
 use species_lexer::{Token, TokenKind};
 use std::alloc::{AllocError, Global};
 use std::marker::Model;
-
-/// The limit on the load, in tokens.
-const LOAD_LIMIT: u32 = 2_000;
 
 /// The spelling of a keyword or punctuator, and nothing for other tokens.
 fn spelling<'a>(token: &Token<'a>) -> &'a [u8]
@@ -66,7 +63,7 @@ impl Load {
     ghost use Rattle.species_ast.specs.Text.Load.{counted, is_end, settled};
 
     fn new(alloc: Global) -> Load
-        ensures { result ≡ empty_load }
+        ensures { result ≡ no_load }
     {
         Load {
             load: 0,
@@ -115,12 +112,12 @@ impl Load {
 
 /// The place of the first token with which the load is above its limit.
 pub(crate) fn load_refusal(alloc: Global, tokens: &[Token<'_>]) -> Result<Option<u32>, AllocError>
-    ensures { IfOk result (λ place. place ≡ first_above 2000 empty_load (seen_tokens tokens.now)) }
+    ensures { IfOk result (λ place. place ≡ load_refusal (seen_tokens tokens.now)) }
 {
     let mut load = Load::new(alloc);
     for (index, token) in tokens.iter().enumerate() {
         load.count(token)?;
-        if load.load > LOAD_LIMIT {
+        if load.load > MOST_LOAD {
             return Ok(Some(token.place));
         }
         load.settle(token, &tokens[index + 1..]);

@@ -22,8 +22,8 @@ struct Pragmas<'a> {
     parallel: Option<(u32, Schedule)>,
 }
 
-// A raw statement has some hundreds of bytes. It is made, and moved into a list, in functions of their
-// own, so that those that call each other need little of the stack.
+// Raw statements and loops are made, and moved into a list, in functions of their own, so that those that
+// call each other need little of the stack.
 
 /// The statement `;`.
 #[inline(never)]
@@ -59,7 +59,7 @@ fn if_of<'a>(
     ensures { IfOk result (λ s. s ≡ if_of (place, ((test.entry, body.entry), otherwise.entry))) }
 {
     let what = RawWhat::If {
-        test: test.into_inner(),
+        test,
         body,
         otherwise,
     };
@@ -78,7 +78,7 @@ fn loop_of<'a>(
     ensures { IfOk result (λ s. s ≡ loop_of (pragmas.entry.line, (pragmas.entry.parallel, (place, (seen_header header.entry, body.entry))))) }
 {
     let test = header.test;
-    let what = RawWhat::Loop(RawLoop {
+    let head = RawLoop {
         line: pragmas.line,
         parallel: pragmas.parallel,
         typed: header.typed,
@@ -89,7 +89,8 @@ fn loop_of<'a>(
         limit: test.limit.into_inner(),
         step: test.step.into_inner(),
         body,
-    });
+    };
+    let what = RawWhat::Loop(Boxed::new(alloc, head)?);
     Boxed::new(alloc, RawStmt { place, what })
 }
 

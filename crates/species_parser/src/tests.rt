@@ -5,10 +5,12 @@ mod loops;
 mod places;
 mod shown;
 mod statements;
+mod types;
 mod units;
 
 use crate::parse;
 use shown::{Shown, put_unit};
+use species_ast::MOST_BYTES;
 use std::alloc::Global;
 use std::process::Abort;
 use std::test::Fail;
@@ -56,7 +58,7 @@ static PROGRAM_WITH_PLACES: Setting = Setting {
 
 /// What is answered of a text.
 fn answer(alloc: Global, text: &[u8], places: bool) -> Result<Vec<u8>, Fail> {
-    if text.len() > 4194304 {
+    if text.len() > MOST_BYTES as usize {
         return Ok(Vec::new(alloc));
     }
     match parse(alloc, text) {

@@ -2,8 +2,7 @@
 -- of a subscript.
 use Rattle.std.specs.Prelude.{ℕ, ◌+◌, ℤ, pos, ◌+ℤ◌, ◌-ℤ◌, List, [], ◌∷◌, ◌++◌, map}
 use Rattle.std.specs.List.{flat_map}
-use Rattle.species_ast.specs.declared.tree.Value.{Value}
-use Rattle.species_ast.specs.declared.tree.Value.TheVariants as value
+use Rattle.species_ast.specs.Operators.{number_of}
 use Rattle.species_ast.specs.declared.tree.Binary.TheVariants as binary
 use Rattle.species_ast.specs.declared.tree.Expr.{Expr, fold-Expr, para-Expr}
 use Rattle.species_ast.specs.declared.tree.Expr.TheOpen.{Expr-F}
@@ -13,10 +12,6 @@ use Rattle.species_ast.specs.declared.tree.Stmt.TheOpen.{Stmt-F}
 use Rattle.species_reference.specs.declared.Dir.{Dir}
 use Rattle.species_reference.specs.declared.Dir.TheVariants as dir
 use Rattle.species_reference.specs.declared.FirstReference.{FirstReference}
-
-abbrev pub number_of : Value → ℤ
-number_of (value.Int n) = n
-number_of (value.Unsigned n) = pos n
 
 -- The value of a subscript that adds and subtracts literals and the one iterator, where the iterator
 -- has the value v. No other subscript stands in a one-loop program; here they count as 0.

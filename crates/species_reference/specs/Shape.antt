@@ -1,14 +1,16 @@
 -- The shape of the expressions and statements of a one-loop program, as tests on trees.
 use Rattle.std.specs.Prelude.{Bool, true, false, ◌&&◌, List, [], ◌∷◌, map}
 use Rattle.species_ast.specs.declared.tree.Binary.TheVariants as binary
+use Rattle.species_ast.specs.declared.tree.Value.TheVariants.{Int}
 use Rattle.species_ast.specs.declared.tree.Expr.{Expr, out-Expr, para-Expr}
 use Rattle.species_ast.specs.declared.tree.Expr.TheOpen.{Expr-F}
 use Rattle.species_ast.specs.declared.tree.Stmt.{Stmt, out-Stmt}
 use Rattle.species_ast.specs.declared.tree.Loop.{Loop}
 use Rattle.species_ast.specs.declared.tree.Stmt.TheOpen.{Stmt-F}
 
+-- a literal that is an `int`
 abbrev pub is_literal_at : Expr-F Expr → Bool
-is_literal_at (Expr-F.Literal n) = true
+is_literal_at (Expr-F.Literal (Int n)) = true
 is_literal_at e = false
 
 abbrev pub is_literal : Expr → Bool

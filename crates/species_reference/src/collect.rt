@@ -89,7 +89,6 @@ fn literal(e: &Expr) -> i64
 {
     match e {
         Expr::Literal(Value::Int(n)) => *n as i64,
-        Expr::Literal(Value::Unsigned(n)) => *n as i64,
         _ => 0,
     }
 }

@@ -53,7 +53,7 @@ fn last_inside<'s, 'a>(stmt: &'s RawStmt<'a>) -> Option<&'s RawStmt<'a>> {
             ..
         } => Some(otherwise.get()),
         RawWhat::If { body, .. } => Some(body.get()),
-        RawWhat::Loop(head) => Some(head.body.get()),
+        RawWhat::Loop(head) => Some(head.get().body.get()),
         _ => None,
     }
 }
@@ -62,7 +62,10 @@ fn last_inside<'s, 'a>(stmt: &'s RawStmt<'a>) -> Option<&'s RawStmt<'a>> {
 fn value<'u, 'a>(unit: &'u RawUnit<'a>) -> Option<&'u RawExpr<'a>> {
     match unit.body.as_slice() {
         [only] => match &only.what {
-            RawWhat::Change(RawChange::Set(_, _, value)) => Some(value),
+            RawWhat::Change(change) => match change.get() {
+                RawChange::Set(_, _, value) => Some(value),
+                _ => None,
+            },
             _ => None,
         },
         _ => None,

@@ -100,7 +100,7 @@ static NO_BRACKETS: [(&str, &str); 16] = [
     ("(int a)", "Syntax(25)"),
     ("(int unsigned)a", "Syntax(25)"),
     ("(unsigned int int)a", "Syntax(34)"),
-    ("(long)a", "Syntax(21)"),
+    ("(long)a", "Syntax(25)"),
     ("int", "Syntax(20)"),
 ];
 

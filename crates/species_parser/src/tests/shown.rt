@@ -72,6 +72,14 @@ impl Shown {
                 self.number(i64::from(n))?;
                 self.put(b"u")
             }
+            Value::Long(n) => {
+                self.number(n)?;
+                self.put(b"ll")
+            }
+            Value::UnsignedLong(n) => {
+                let text = format!(in self.alloc; "{n}ull")?;
+                self.put(text.as_bytes())
+            }
         }
     }
 }
@@ -80,6 +88,8 @@ fn kind_word(kind: Kind) -> &'static [u8] {
     match kind {
         Kind::Int => b"int",
         Kind::Unsigned => b"unsigned",
+        Kind::Long => b"long-long",
+        Kind::UnsignedLong => b"unsigned-long-long",
     }
 }
 

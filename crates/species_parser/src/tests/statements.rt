@@ -19,7 +19,7 @@ static DECLARATIONS: [(&str, &str); 16] = [
         " (declare int (x)) (= x 1) (declare int (y))",
     ),
     ("int long x;", "Syntax(14)"),
-    ("long x;", "Syntax(10)"),
+    ("long x;", "Syntax(15)"),
     ("int unsigned x;", "Syntax(14)"),
     ("const int x;", "Syntax(10)"),
     ("static int x;", "Syntax(10)"),

@@ -61,7 +61,7 @@ static NO_GLOBALS: [(&str, &str); 14] = [
     ("static static int A[1]; void k() {}", "Syntax(7)"),
     ("static\n#include <a>\nvoid k() {}", "Syntax(7)"),
     ("int static A[1]; void k() {}", "Syntax(4)"),
-    ("unsigned long A[1]; void k() {}", "Syntax(9)"),
+    ("unsigned long A[1]; void k() {}", "Syntax(14)"),
     ("A[1]; void k() {}", "Syntax(0)"),
     ("#define N 6\nint N[4];\nvoid k() {}", "Syntax(16)"),
 ];

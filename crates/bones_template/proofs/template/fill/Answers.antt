@@ -1,6 +1,5 @@
-use Rattle.std.proofs.Common.{rules, arith, ◌≡◌, ◌∙◌, ap, sym, ◌++◌}
+use Rattle.std.proofs.Common.{rules, ◌≡◌, ◌∙◌, ap, sym, ◌++◌}
 use Rattle.bones_template.specs.Holes.{contents_of}
-use Rattle.bones_template.specs.Filling.{filled_of}
 use Rattle.bones_template.proofs.FillLemmas.{all_filled, becomes, hole_turn}
 use Rattle.bones_template.proofs.template.fill.Goals as goal
 

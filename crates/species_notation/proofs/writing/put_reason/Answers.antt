@@ -1,6 +1,5 @@
-use Rattle.std.proofs.Common.{ap, ◌∙◌, append_assoc, codes, decimal, ◌∷◌}
-use Rattle.species_notation.specs.Parts.{text_of}
-use Rattle.species_notation.specs.Written.{name_at, line_pieces, written_reason}
+use Rattle.std.proofs.Common.{append_assoc, codes, decimal, ◌∷◌}
+use Rattle.species_notation.specs.Written.{name_at}
 use Rattle.species_notation.proofs.ArcTexts.{carried_text, local_text, regroup_four}
 use Rattle.species_notation.proofs.writing.put_reason.Goals as goal
 

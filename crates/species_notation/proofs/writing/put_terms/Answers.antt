@@ -1,4 +1,4 @@
-use Rattle.std.proofs.Common.{◌≡◌, ◌∙◌, ap, append_assoc, map, take, sym, pos, ◌++◌, List, ℕ, slice_index_or, nat_eq}
+use Rattle.std.proofs.Common.{◌∙◌, ap, append_assoc, map, take, sym, pos, ◌++◌, List, ℕ, slice_index_or, nat_eq}
 use Rattle.species_linear.specs.declared.forms.Term.{Term}
 use Rattle.species_notation.specs.Parts.{parts_text}
 use Rattle.species_notation.specs.Spelled.{summand_parts, summands_parts}

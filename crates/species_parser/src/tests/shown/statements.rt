@@ -166,13 +166,15 @@ fn put_what(what: &RawWhat<'_>, out: &mut Shown) -> Result<(), OutOfMemory> {
             otherwise,
         } => {
             out.put(b"(if")?;
-            put_expr(test, out)?;
+            put_expr(test.get(), out)?;
             put_stmt(body.get(), out)?;
             put_otherwise(otherwise, out)
         }
-        RawWhat::Loop(head) => put_loop(head, out),
-        RawWhat::Change(change) => put_change(change, out),
-        RawWhat::Atomic { target, value } => put_assigned(b"(atomic +=", target, value, out),
+        RawWhat::Loop(head) => put_loop(head.get(), out),
+        RawWhat::Change(change) => put_change(change.get(), out),
+        RawWhat::Atomic { target, value } => {
+            put_assigned(b"(atomic +=", target.get(), value.get(), out)
+        }
     }
 }
 

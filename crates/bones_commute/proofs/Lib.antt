@@ -1,0 +1,13 @@
+mod Apart
+mod CountLaws
+mod Elements
+mod Even
+mod JoinedLaws
+mod NestPlays
+mod Orders
+mod Past
+mod PlayExamples
+mod PlayLaws
+mod Steps
+mod UnitLaws
+mod UnitRuns

@@ -1,0 +1,20 @@
+-- The laws, for all joins in which the order of what is joined does not matter.
+use Rattle.std.specs.Prelude.{List, map}
+use Rattle.species_ast.specs.Accesses.{Joins, Cells, Tree}
+use Rattle.species_ast.specs.Evaluation.{Frame}
+use Rattle.bones_meaning.specs.Plays.{start}
+use Rattle.bones_commute.specs.Scripts.{Scripted, IsScripted, script_of, trees, Follows, StepsFollow, StatesGoOn, EndsAreEqual}
+use Rattle.bones_commute.specs.Trades.{Trades}
+
+abbrev pub AllStepsFollow : Type 0
+AllStepsFollow = (join : Joins) → Trades join → StepsFollow join
+
+abbrev pub AllStatesGoOn : Type 0
+AllStatesGoOn = (join : Joins) → Trades join → StatesGoOn join
+
+abbrev pub AllEndsAreEqual : Type 0
+AllEndsAreEqual = (join : Joins) → Trades join → EndsAreEqual join
+
+-- The state in which a nest begins follows its scripts.
+abbrev pub AllStartsFollow : Type 0
+AllStartsFollow = (join : Joins) → Trades join → (first : Cells) (xs : List (Scripted Frame)) → IsScripted join first xs → Follows join first (map script_of xs) (start (trees xs) first)

@@ -1,0 +1,6 @@
+pub mod Joined
+pub mod Laws
+pub mod Orderly
+pub mod Scripts
+pub mod ScriptsOfRuns
+pub mod Trades

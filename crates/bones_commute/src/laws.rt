@@ -1,0 +1,24 @@
+//! The laws of interleavings.
+
+ghost use Rattle.bones_commute.specs.Laws.{AllStartsFollow, AllStepsFollow, AllStatesGoOn, AllEndsAreEqual};
+ghost use Rattle.bones_commute.specs.Orderly.{OrderlyUnitsPlay, EveryInterleaving};
+
+/// Where the scripts of a nest's iterations fit its arrays and are apart, the nest begins in a state
+/// that follows them, each step keeps to them, and no iteration is ever stuck or faults.
+pub fn law_step()
+    ensures starts { AllStartsFollow }
+    ensures steps { AllStepsFollow }
+    ensures goes_on { AllStatesGoOn }
+{}
+
+/// Whatever the order of the steps was, the arrays are the same when all iterations are done.
+pub fn law_end()
+    ensures { AllEndsAreEqual }
+{}
+
+/// No play of an orderly unit faults, each can be continued, and each ends in the arrays of the
+/// unit's run after as many steps as the run has accesses in parallel nests.
+pub fn law_plays()
+    ensures any_join { OrderlyUnitsPlay }
+    ensures of_sums { EveryInterleaving }
+{}

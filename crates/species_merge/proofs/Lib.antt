@@ -1,0 +1,4 @@
+pub mod Divides
+pub mod Folding
+pub mod HullSteps
+pub mod Covering

@@ -1,0 +1,3 @@
+pub mod Hulls
+pub mod Reaches
+pub mod Stretches

@@ -1,0 +1,27 @@
+use Rattle.std.proofs.Common.{rules, arith}
+use Rattle.species_grammar.specs.Reader.{is_of, skip}
+use Rattle.species_grammar.proofs.Free.{repeated_done}
+use Rattle.species_notation.specs.Readers.{arcs, more_of, arc, sign}
+use Rattle.species_notation.proofs.Turns.{list_begins, repeated_turn}
+use Rattle.species_notation.proofs.Totals.{a_next_arc}
+use Rattle.species_notation.proofs.reading.arcs.Goals as goal
+
+pub loop-alloc-init : goal.loop-alloc-init
+unfolding arcs
+loop-alloc-init c = (
+  let begins = list_begins arc (more_of 94 arc) c.args.cursor.now _ _ c.in_ok-arc.ensures.value in rw begins (search rules),
+  search rules,
+)
+
+pub returns-in_err-next_arc-clause-value : goal.returns-in_err-next_arc-clause-value
+returns-in_err-next_arc-clause-value c =
+    let turn = repeated_turn (is_of (sign 94)) (skip (sign 94) arc) a_next_arc c.loop-alloc.found c.loop-alloc.cursor (search rules) in
+    rw (c.loop-alloc.invariant.0, turn) (search rules)
+
+pub loop-alloc-preserved : goal.loop-alloc-preserved
+loop-alloc-preserved c =
+    let turn = repeated_turn (is_of (sign 94)) (skip (sign 94) arc) a_next_arc c.loop-alloc.found c.loop-alloc.cursor (search rules) in
+    (rw (c.loop-alloc.invariant.0, turn) (search rules), omega (arith, c.loop-alloc.invariant.1, c.in_ok-next_arc.ensures.shorter))
+
+pub returns-clause-value : goal.returns-clause-value
+returns-clause-value c = repeated_done (is_of (sign 94)) (skip (sign 94) arc) _ _ _ c.loop-alloc.invariant.0 (search rules)

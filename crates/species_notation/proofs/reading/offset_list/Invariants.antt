@@ -1,0 +1,11 @@
+use Rattle.std.proofs.Common.{◌≡◌, ◌<◌, length}
+use Rattle.species_grammar.specs.Reader.{prepended}
+use Rattle.species_notation.specs.Readers.{listed, more_of, offset}
+use Rattle.species_notation.proofs.reading.offset_list.Given as goal
+
+-- reading goes on behind what was read
+abbrev pub invariant-loop-found : goal.invariant-loop-found
+invariant-loop-found l = (listed 44 offset l.fn.cursor ≡ prepended l.found (more_of 44 offset l.cursor)) × (length l.cursor < length l.fn.cursor)
+
+abbrev pub decreases-loop-found : goal.decreases-loop-found
+decreases-loop-found l = length l.cursor
