@@ -17,8 +17,8 @@ act_in Adds e v = Plus e v
 
 abbrev pub act_of : Access → Act
 act_of x = act_in x.direction x.element x.value
-module _ (join : Joins) where
 
+module _ (join : Joins) where
   trace_is : {X : Type 0} (t : Tree X) (m : Cells) → trace join t m ≡ map act_of (accesses join t m)
   trace_is (Ret x) m = refl
   trace_is (Stop s why) m = refl

@@ -90,8 +90,8 @@ look_changed m q p f =
           s ∙ ap (λ b. through (λ c. if b then f c else c) (look m p)) (sym t)
       | inr n ↦ look_other m q p f n ∙ sym (through_id (look m p)) ∙ ap (λ b. through (λ c. if b then f c else c) (look m p)) (sym n)
     ]
-module _ (join : Joins) where
 
+module _ (join : Joins) where
   module _ where
     pub act_look : (a : Act) (m : Cells) (p : Element) → look (act_on join a m) p ≡ through (value_after join p (a ∷ [])) (look m p)
     act_look (Get q v) m p = sym (through_id (look m p))
@@ -139,8 +139,8 @@ module _ (join : Joins) where
           | inl t ↦ ap (λ b. (value_after join) p s (if b then join p.array c v else c)) t ∙ after_joined p s _ w ∙ ap (λ b. (joined_with join) p.array c (if b then v ∷ values_added p s else values_added p s)) (sym t)
           | inr n ↦ ap (λ b. (value_after join) p s (if b then join p.array c v else c)) n ∙ after_joined p s _ w ∙ ap (λ b. (joined_with join) p.array c (if b then v ∷ values_added p s else values_added p s)) (sym n)
         ]
-module _ (join : Joins) (trades : Trades join) where
 
+module _ (join : Joins) (trades : Trades join) where
   module _ where
     trade : (a : ℕ) (c v w : Value) → join a (join a c v) w ≡ join a (join a c w) v
     trade a c v w = trades a c v w
@@ -166,8 +166,8 @@ module _ (join : Joins) (trades : Trades join) where
               ∙ after_trade p s d c v w
               ∙ ap (λ b. join p.array (value_after join p (take d s) (if b then join p.array c u else c)) v) (sym n)
         ]
-module _ (join : Joins) where
 
+module _ (join : Joins) where
   module _ where
     pub fits_get : (s : List Act) (d : ℕ) (m : Cells) (p : Element) (v : Value) → FitsFrom join m s → slice_get s d ≡ Some (Get p v) → cell (play join (take d s) m) p ≡ v
     fits_get [] d m p v f h = cc

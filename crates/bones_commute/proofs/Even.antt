@@ -39,8 +39,8 @@ decide f n (s ∷ ss) =
     go : f s ≡ false → ((k : ℕ) → f (nth ss k) ≡ false) → (k : ℕ) → f (nth (s ∷ ss) k) ≡ false
     go a all zero = a
     go a all (suc k) = all k
-module _ (join : Joins) (trades : Trades join) where
 
+module _ (join : Joins) (trades : Trades join) where
   module _ (first : Cells) (ss : List (List Act)) (apart : AreApart ss) where
     pub others_silent : (k : ℕ) (p : Element) → writes p (nth ss k) ≡ true → (j : ℕ) → j ≢ k → Silent p (nth ss j)
     others_silent k p w j d = let a = apart.written k j p (λ e. d (sym e)) w in (a.1, a.2)
@@ -99,8 +99,8 @@ sizes_change : (m : Cells) (a i : ℕ) (f : Value → Value) → map length (cha
 sizes_change [] a i f = refl
 sizes_change (r ∷ m) zero i f = ap (λ n. n ∷ map length m) (length_change r i f)
 sizes_change (r ∷ m) (suc a) i f = ap (λ l. length r ∷ l) (sizes_change m a i f)
-module _ (join : Joins) where
 
+module _ (join : Joins) where
   pub sizes_act : (a : Act) (m : Cells) → map length (act_on join a m) ≡ map length m
   sizes_act (Get p v) m = refl
   sizes_act (Put p v) m = sizes_change m p.array p.at _
@@ -116,8 +116,8 @@ got_at ss [] k t a h = cc
 got_at [] (r ∷ ts) k t a h = absurd a
 got_at (s ∷ ss) (r ∷ ts) zero t a h = let e : r ≡ t = cc in (subst (λ x. x.got ≡ answers_in (take x.done s)) e a.1, omega arith)
 got_at (s ∷ ss) (r ∷ ts) (suc k) t a h = let x = got_at ss ts k t a.2 h in (x.0, omega (arith, x.1))
-module _ (join : Joins) (trades : Trades join) where
 
+module _ (join : Joins) (trades : Trades join) where
   module _ (first : Cells) (ss : List (List Act)) (fits : Fits join first ss) (apart : AreApart ss) (st : State) (ev : Even join first ss st) where
     module _ (k : ℕ) (t : Turn) (at : slice_get st.turns k ≡ Some t) where
       along_next : (a : Act) → slice_get (nth ss k) t.done ≡ Some a → Along ss (slice_set st.turns k (gone t a))

@@ -37,10 +37,9 @@ module _ (join : Joins) (trades : Trades join) where
         let r = told_run x.tree x.answers m e.0 (fits_move join (script_of x) first m (same zero) (f zero)) in
         let n = play join (script_of x) m in
         let tail = fit_runs xs n first e.1 (apart_tail _ _ a) (λ k. f (suc k))
-            (λ k q h.
-                let quiet : Silent q (script_of x) = readers_alone join trades first (map script_of (x ∷ xs)) a (suc k) q h zero (λ z. let y : ⊥ = omega (arith, z) in y) in
-                same (suc k) q h ∙ sym (play_silent join q (script_of x) m quiet)) in
-        (
+        (λ k q h.
+        let quiet : Silent q (script_of x) = readers_alone join trades first (map script_of (x ∷ xs)) a (suc k) q h zero (λ z. let y : ⊥ = omega (arith, z) in y) in
+        same (suc k) q h ∙ sym (play_silent join q (script_of x) m quiet)) in (
           ap (λ o. then_all (arrays_of o) (run_all join (trees xs))) r.1 ∙ tail.0 ∙ ap (λ c. Some c) (sym (play_append join (script_of x) (whole (map script_of xs)) m)),
           ap (λ s. s ∷ (scripts join) (trees xs) (left_by (run join x.tree m) m)) r.2 ∙ ap (λ o. script_of x ∷ (scripts join) (trees xs) (left_by o m)) r.1 ∙ ap (λ l. script_of x ∷ l) tail.1,
         )
@@ -54,10 +53,10 @@ module _ (join : Joins) (trades : Trades join) where
     each_fits (p ∷ ps) m last first h a same (suc k) =
         let d = defined join trades p ps m last (run join p m) refl h in
         each_fits ps _ last (λ j. first (suc j)) d.2 (apart_tail _ _ a)
-            (λ j q r.
-                let quiet : Silent q (trace join p m) = readers_alone join trades m (scripts join (p ∷ ps) m) a (suc j) q r zero (λ e. let x : ⊥ = omega (arith, e) in x) in
-                ap (λ n. look n q) (sym (run_play join p m d.0 _ d.1)) ∙ play_silent join q (trace join p m) m quiet ∙ same (suc j) q r)
-            k
+        (λ j q r.
+        let quiet : Silent q (trace join p m) = readers_alone join trades m (scripts join (p ∷ ps) m) a (suc j) q r zero (λ e. let x : ⊥ = omega (arith, e) in x) in
+        ap (λ n. look n q) (sym (run_play join p m d.0 _ d.1)) ∙ play_silent join q (trace join p m) m quiet ∙ same (suc j) q r)
+        k
 
     -- ---- the parts of the joined nest
 
@@ -95,8 +94,7 @@ module _ (join : Joins) (trades : Trades join) where
         let b = defined join trades q qs n last (run join q n) refl g in
         let r = scripts_both ps qs _ _ mid last d.2 b.2 in
         let one : told (then_do p (λ x. q)) (answers_of join p m ++ (answers_of join) q n) ≡ trace join p m ++ (trace join) q n =
-        told_then p q m (answers_of join q n) d.0 _ d.1 ∙ ap (λ s. (trace join) p m ++ s) (trace_told join q n) in
-        (
+        told_then p q m (answers_of join q n) d.0 _ d.1 ∙ ap (λ s. (trace join) p m ++ s) (trace_told join q n) in (
           ap (λ s. s ∷ map script_of (both_parts ps qs (left_by (run join p m) m) (left_by (run join q n) n))) one ∙ ap (λ l. (trace join p m ++ (trace join) q n) ∷ l) r.0,
           (ends_then p q m (answers_of join q n) d.0 _ d.1 (run_ends join q n b.0 _ b.1), r.1),
         )
@@ -128,8 +126,8 @@ adds_app p [] u = refl
 adds_app p (Get q v ∷ s) u = adds_app p s u
 adds_app p (Put q v ∷ s) u = adds_app p s u
 adds_app p (Plus q v ∷ s) u = ap (λ b. element_eq p q || b) (adds_app p s u) ∙ or_assoc (element_eq p q) (adds p s) (adds p u)
-module _ (join : Joins) where
 
+module _ (join : Joins) where
   pub fits_app : (s u : List Act) (m : Cells) → FitsFrom join m s → FitsFrom join (play join s m) u → FitsFrom join m (s ++ u)
   fits_app [] u m f g = g
   fits_app (Get q v ∷ s) u m f g = (f.0, fits_app s u m f.1 g)
@@ -143,8 +141,8 @@ nth_pairs [] (u ∷ us) k h = let x : ⊥ = omega (arith, h) in absurd x
 nth_pairs (s ∷ ss) [] k h = let x : ⊥ = omega (arith, h) in absurd x
 nth_pairs (s ∷ ss) (u ∷ us) zero h = refl
 nth_pairs (s ∷ ss) (u ∷ us) (suc k) h = nth_pairs ss us k (omega (arith, h))
-module _ (join : Joins) (trades : Trades join) where
 
+module _ (join : Joins) (trades : Trades join) where
   -- ---- one element
 
   module _ (p : Element) where
@@ -211,8 +209,8 @@ or_left false b h = cc
 or_right : (a b : Bool) → b ≡ true → a || b ≡ true
 or_right true b h = refl
 or_right false b h = h
-module _ (join : Joins) (trades : Trades join) where
 
+module _ (join : Joins) (trades : Trades join) where
   module _ (ss us : List (List Act)) (same : length ss ≡ length us) where
     r_is : (k : ℕ) (p : Element) → reads p (nth (pairs ss us) k) ≡ reads p (nth ss k) || reads p (nth us k)
     r_is k p = ap (reads p) (nth_pairs ss us k same) ∙ reads_app p (nth ss k) (nth us k)
@@ -275,26 +273,25 @@ module _ (join : Joins) (trades : Trades join) where
       let start_is : play join (whole ss) first ≡ mid = all_play join trades ps first mid h in
       let agree : (k : ℕ) (p : Element) → reads p (nth us k) ≡ true → look mid p ≡ look (play join (nth ss k) first) p =
       λ k p r.
-          let quiet = readers_alone join trades first (pairs ss us) apart k p (r_is ss us len k p ∙ or_right _ _ r) in
-          let q : (j : ℕ) → j ≢ k → Silent p (nth ss j) = λ j d. ((no_writes ss us len j p (quiet j d).0).0, (no_adds ss us len j p (quiet j d).1).0) in
-          ap (λ m. look m p) (sym start_is) ∙ play_look join (whole ss) first p ∙ ap (λ f. through f (look first p)) (λ i c. (whole_own join trades) p ss k c q i)
-          ∙ sym (play_look join (nth ss k) first p) in
+      let quiet = readers_alone join trades first (pairs ss us) apart k p (r_is ss us len k p ∙ or_right _ _ r) in
+      let q : (j : ℕ) → j ≢ k → Silent p (nth ss j) = λ j d. ((no_writes ss us len j p (quiet j d).0).0, (no_adds ss us len j p (quiet j d).1).0) in
+      ap (λ m. look m p) (sym start_is) ∙ play_look join (whole ss) first p ∙ ap (λ f. through f (look first p)) (λ i c. (whole_own join trades) p ss k c q i)
+      ∙ sym (play_look join (nth ss k) first p) in
       let fits : (k : ℕ) → FitsFrom join first (nth (pairs ss us) k) =
       λ k. subst (FitsFrom join first) (sym (nth_pairs ss us k len))
-          (fits_app join (nth ss k) (nth us k) first
-              (each_fits join trades ps first mid (λ j. first) h (first_apart ss us len apart) (λ j p r. refl) k)
-              (each_fits join trades qs mid last (λ j. (play join) (nth ss j) first) g (second_apart ss us len apart) agree k)) in
+      (fits_app join (nth ss k) (nth us k) first
+      (each_fits join trades ps first mid (λ j. first) h (first_apart ss us len apart) (λ j p r. refl) k)
+      (each_fits join trades qs mid last (λ j. (play join) (nth ss j) first) g (second_apart ss us len apart) agree k)) in
       let r = fit_runs join trades xs first first b.1 (subst AreApart (sym b.0) apart) (λ k. subst (λ l. (FitsFrom join) first (nth l k)) (sym b.0) (fits k)) (λ k p z. refl) in
       let trees_are = trees_both join trades ps qs first mid in
       let end_is : play join (whole (pairs ss us)) first ≡ play join (whole us) (play join (whole ss) first) =
       cells_same _ _ (sizes_play join (whole (pairs ss us)) first ∙ sym (sizes_play join (whole us) (play join (whole ss) first) ∙ sizes_play join (whole ss) first))
-          (λ p.
-              (play_look join) (whole (pairs ss us)) first p ∙ through_same _ _ (look first p) (λ c l. zip_same ss us len apart first p c)
-              ∙ sym (play_look join (whole us) (play join (whole ss) first) p ∙ ap (through (value_after join p (whole us))) (play_look join (whole ss) first p)
-                  ∙ through_both (value_after join p (whole ss)) (value_after join p (whole us)) (look first p))) in
+      (λ p.
+      (play_look join) (whole (pairs ss us)) first p ∙ through_same _ _ (look first p) (λ c l. zip_same ss us len apart first p c)
+      ∙ sym (play_look join (whole us) (play join (whole ss) first) p ∙ ap (through (value_after join p (whole us))) (play_look join (whole ss) first p)
+      ∙ through_both (value_after join p (whole ss)) (value_after join p (whole us)) (look first p))) in
       let ends : play join (whole (map script_of xs)) first ≡ last =
-      ap (λ l. (play join) (whole l) first) b.0 ∙ end_is ∙ ap (play join (whole us)) start_is ∙ all_play join trades qs mid last g in
-      (
+      ap (λ l. (play join) (whole l) first) b.0 ∙ end_is ∙ ap (play join (whole us)) start_is ∙ all_play join trades qs mid last g in (
         ap (λ q. (run_all join) q first) (sym trees_are) ∙ r.0 ∙ ap (λ c. Some c) ends,
         ap (λ q. (scripts join) q first) (sym trees_are) ∙ r.1 ∙ b.0,
       )

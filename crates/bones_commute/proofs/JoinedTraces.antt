@@ -39,7 +39,7 @@ module _ (join : Joins) where
       let v = head_value e in
       ap (λ c. access s Reads el c ∷ (accesses join) (then_do (more c) (λ y. q)) k) v
       ∙ ap (λ l. access s Reads el (cell m el) ∷ l)
-          (both_accesses (more (cell m el)) q k m n x o h (subst (λ c. (trace join) (then_do (more c) (λ y. q)) k ≡ trace join (more (cell m el)) m ++ (trace join) q n) v (tail_of e)))
+      (both_accesses (more (cell m el)) q k m n x o h (subst (λ c. (trace join) (then_do (more c) (λ y. q)) k ≡ trace join (more (cell m el)) m ++ (trace join) q n) v (tail_of e)))
   both_accesses (Write s el v more) q k m n x o h e = ap (λ l. access s Writes el v ∷ l) (both_accesses more q _ _ n x o h (tail_of e))
   both_accesses (Add s el v more) q k m n x o h e = ap (λ l. access s Adds el v ∷ l) (both_accesses more q _ _ n x o h (tail_of e))
 
@@ -48,12 +48,12 @@ first_list e = cc
 
 later_lists : {A : Type 0} {s u : List A} {ss us : List (List A)} → s ∷ ss ≡ u ∷ us → ss ≡ us
 later_lists e = cc
-module _ (join : Joins) where
 
+module _ (join : Joins) where
   later_traces : {X : Type 0} (p : Tree X) (ps : List (Tree X)) (m : Cells) (x : X) (n : Cells) → run join p m ≡ Ended x n → traces join (p ∷ ps) m ≡ accesses join p m ∷ (traces join) ps n
   later_traces p ps m x n h = ap (λ o. (accesses join) p m ∷ then_traces (arrays_of o) (traces join ps)) h
-module _ (join : Joins) (trades : Trades join) where
 
+module _ (join : Joins) (trades : Trades join) where
   both_traces : {X : Type 0} (ps qs : List (Tree X)) (k m n end mid last : Cells) → run_all join (both ps qs) k ≡ Some end → run_all join ps m ≡ Some mid → run_all join qs n ≡ Some last
       → scripts join (both ps qs) k ≡ pairs (scripts join ps m) (scripts join qs n) → traces join (both ps qs) k ≡ pairs (traces join ps m) (traces join qs n)
   both_traces [] qs k m n end mid last r h g e = refl
@@ -72,6 +72,7 @@ pub map_pairs : (xss yss : List (List Access)) → pairs (map (map act_of) xss) 
 map_pairs [] yss = refl
 map_pairs (xs ∷ xss) [] = refl
 map_pairs (xs ∷ xss) (ys ∷ yss) = λ i. sym (map-append act_of xs ys) i ∷ map_pairs xss yss i
+
 -- the law
 pub joined_nests_run : JoinedNestsRun
 joined_nests_run join trades ps qs first mid last len h g apart =

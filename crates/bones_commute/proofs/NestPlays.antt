@@ -73,8 +73,8 @@ module _ (join : Joins) where
 pub take_all : {A : Type 0} (s : List A) → take (length s) s ≡ s
 take_all [] = refl
 take_all (a ∷ s) = ap (λ l. a ∷ l) (take_all s)
-module _ (join : Joins) where
 
+module _ (join : Joins) where
   pub play_silent : (p : Element) (s : List Act) (m : Cells) → Silent p s → look (play join s m) p ≡ look m p
   play_silent p s m h =
       (play_look join) s m p
@@ -92,8 +92,8 @@ apart_tail s ss a = record {
   written = λ j k p d w. a.written (suc j) (suc k) p (λ e. d (omega (arith, e))) w;
   gathered = λ j k p h. a.gathered (suc j) (suc k) p h;
 }
-module _ (join : Joins) (trades : Trades join) where
 
+module _ (join : Joins) (trades : Trades join) where
   module _ {X : Type 0} where
     abbrev pub parts : List (Tree X) → Cells → List (Scripted X)
     parts [] m = []
@@ -149,8 +149,8 @@ taken_set : (ts : List Turn) (k : ℕ) (t u : Turn) → slice_get ts k ≡ Some 
 taken_set [] k t u h e = cc
 taken_set (r ∷ ts) zero t u h e = let q : r.done ≡ t.done = let x : r ≡ t = cc in ap (λ y. y.done) x in omega (arith, q, e)
 taken_set (r ∷ ts) (suc k) t u h e = omega (arith, taken_set ts k t u h e)
-module _ (join : Joins) where
 
+module _ (join : Joins) where
   pub by_action : (st : State) (k : ℕ) (t : Turn) (o : Option Action) (new : State) → step_by join st k t o ≡ Some new → (u : Turn) × (new.turns ≡ slice_set st.turns k u) × (u.done ≡ suc t.done)
   by_action st k t None new e = cc
   by_action st k t (Some (action.Read a i)) new e = let q = ap (λ x. x.turns) (some_same e) in (_, sym q, refl)
@@ -177,8 +177,8 @@ taken_all (x ∷ xs) [] e a c = absurd a
 taken_all (x ∷ xs) (t ∷ ts) e a c =
     let b : length (script_of x) ≤ t.done = last_at (script_of x) t.done (complete_at x t e.0 a.0 a.1 c.0) in
     omega (arith, a.0, b, taken_all xs ts e.1 a.2 c.1)
-module _ (join : Joins) where
 
+module _ (join : Joins) where
   pub sizes_play : (s : List Act) (m : Cells) → map length (play join s m) ≡ map length m
   sizes_play [] m = refl
   sizes_play (a ∷ s) m = sizes_play s (act_on join a m) ∙ sizes_act join a m
@@ -194,8 +194,8 @@ past_start (x ∷ xs) = past_start xs
 pub taken_start : {X : Type 0} (ps : List (Tree X)) → taken (map (λ p. not_begun) ps) ≡ 0
 taken_start [] = refl
 taken_start (p ∷ ps) = omega (arith, taken_start ps)
-module _ (join : Joins) where
 
+module _ (join : Joins) where
   pub plays_append : {X : Type 0} (ps : List (Tree X)) (ks more : List ℕ) (st : State) → plays join ps (ks ++ more) st ≡ then_state (plays join ps ks st) (plays join ps more)
   plays_append ps [] more st = refl
   plays_append ps (k ∷ ks) more st = go (plays_append ps ks more) (step_of join ps st k)
@@ -203,8 +203,8 @@ module _ (join : Joins) where
       go : ((new : State) → plays join ps (ks ++ more) new ≡ then_state (plays join ps ks new) (plays join ps more)) → (o : Option State) → then_state o (plays join ps (ks ++ more)) ≡ then_state (then_state o (plays join ps ks)) (plays join ps more)
       go again None = refl
       go again (Some new) = again new
-module _ (join : Joins) (trades : Trades join) where
 
+module _ (join : Joins) (trades : Trades join) where
   module _ (first : Cells) (xs : List (Scripted Frame)) (nest : IsScripted join first xs) where
     abbrev ss : List (List Act)
     ss = map script_of xs
@@ -270,12 +270,12 @@ module _ (join : Joins) (trades : Trades join) where
           λ c. let e = ends_in st r.0 c in (e.0, n ∙ e.1),
           (m.0, m.1, plays_append join (trees xs) ks m.0 (start (trees xs) first) ∙ ap (λ o. then_state o (plays join (trees xs) m.0)) h ∙ m.2, m.3),
         )
-module _ (join : Joins) where
 
+module _ (join : Joins) where
   abbrev pub NestRuns : List (Tree Frame) → Cells → Cells → Type 0
   NestRuns ps first last = (run_all join ps first ≡ Some last) × AreApart (scripts join ps first)
-module _ (join : Joins) (trades : Trades join) where
 
+module _ (join : Joins) (trades : Trades join) where
   pub scripted : (ps : List (Tree Frame)) (first last : Cells) → NestRuns join ps first last → IsScripted join first (parts join trades ps first)
   scripted ps first last o =
       let same = scripts_parts join trades ps first in
@@ -284,16 +284,16 @@ module _ (join : Joins) (trades : Trades join) where
         fits = λ k. subst (λ l. (FitsFrom join) first (nth l k)) (sym same) (all_fit join trades ps first first last o.0 o.1 (λ j p r. refl) k);
         apart = subst AreApart (sym same) o.1;
       }
-module _ (join : Joins) where
 
+module _ (join : Joins) where
   -- a play of a nest that runs and is apart
   pub record NestEnds (ps : List (Tree Frame)) (first last : Cells) (ks : List ℕ) (st : State) : Type 0 where
     pub no_fault : (k : ℕ) (p : Tree Frame) (t : Turn) → slice_get ps k ≡ Some p → slice_get st.turns k ≡ Some t → next_of p t ≢ Some Fault
     pub no_longer : length ks ≤ total (scripts join ps first)
     pub ends : Complete ps st.turns → (st.cells ≡ last) × (length ks ≡ total (scripts join ps first))
     pub goes_on : (more : List ℕ) × (end : State) × (plays join ps (ks ++ more) (start ps first) ≡ Some end) × Complete ps end.turns
-module _ (join : Joins) (trades : Trades join) where
 
+module _ (join : Joins) (trades : Trades join) where
   pub law_plays : (ps : List (Tree Frame)) (first last : Cells) (ks : List ℕ) (st : State) → NestRuns join ps first last → plays join ps ks (start ps first) ≡ Some st → NestEnds join ps first last ks st
   law_plays ps first last ks st o h =
       let xs = parts join trades ps first in

@@ -45,8 +45,8 @@ no_script [] zero h = refl
 no_script [] (suc k) h = refl
 no_script (x ∷ xs) zero h = cc
 no_script (x ∷ xs) (suc k) h = no_script xs k h
-module _ (join : Joins) (trades : Trades join) where
 
+module _ (join : Joins) (trades : Trades join) where
   module _ (first : Cells) (xs : List (Scripted Frame)) (nest : IsScripted join first xs) where
     abbrev ss : List (List Act)
     ss = map script_of xs
@@ -93,8 +93,8 @@ done_at_start : {X : Type 0} (ps : List (Tree X)) (k : ℕ) → done_at (map (λ
 done_at_start [] k = refl
 done_at_start (p ∷ ps) zero = refl
 done_at_start (p ∷ ps) (suc k) = done_at_start ps k
-module _ (join : Joins) (trades : Trades join) where
 
+module _ (join : Joins) (trades : Trades join) where
   -- Any order in which no iteration moves more often than its script is long is a play.
   pub law_orders : (ps : List (Tree Frame)) (first last : Cells) (ks : List ℕ) → NestRuns join ps first last → ((k : ℕ) → count_of k ks ≤ length (nth (scripts join ps first) k))
       → (st : State) × (plays join ps ks (start ps first) ≡ Some st)
@@ -157,8 +157,8 @@ length_times k (a ∷ s) rest = omega (arith, length_times k s rest)
 length_order : (b : ℕ) (ss : List (List Act)) → length (in_order b ss) ≡ total ss
 length_order b [] = refl
 length_order b (s ∷ ss) = length_times b s (in_order (suc b) ss) ∙ ap (λ n. length s + n) (length_order (suc b) ss)
-module _ (join : Joins) (trades : Trades join) where
 
+module _ (join : Joins) (trades : Trades join) where
   -- So the source's order is one, and it ends in the source's arrays.
   pub law_source : (ps : List (Tree Frame)) (first last : Cells) → NestRuns join ps first last
       → (st : State) × (plays join ps (in_order 0 (scripts join ps first)) (start ps first) ≡ Some st) × Complete ps st.turns × (st.cells ≡ last)

@@ -21,8 +21,8 @@ zero_differs j e = let x : ⊥ = omega (arith, e) in x
 
 sucs_differ : (j k : ℕ) → j ≢ k → suc j ≢ suc k
 sucs_differ j k h e = h (omega (arith, e))
-module _ (join : Joins) (trades : Trades join) where
 
+module _ (join : Joins) (trades : Trades join) where
   module _ (p : Element) where
     pub past_silent : (ss : List (List Act)) (ts : List Turn) (c : Value) → ((j : ℕ) → Silent p (nth ss j)) → value_after join p (past ss ts) c ≡ c
     past_silent [] ts c h = refl

@@ -36,8 +36,8 @@ found (x ∷ xs) (t ∷ ts) (suc k) e a =
       | inl n ↦ inl n
       | inr f ↦ inr (record { part = f.part; turn = f.turn; tree_at = f.tree_at; turn_at = f.turn_at; script_is = f.script_is; next_at = f.next_at })
     ]
-module _ (join : Joins) (trades : Trades join) where
 
+module _ (join : Joins) (trades : Trades join) where
   module _ (first : Cells) (xs : List (Scripted Frame)) (st : State) (nest : IsScripted join first xs) (f : Follows join first (map script_of xs) st) where
     abbrev ss : List (List Act)
     ss = map script_of xs
@@ -83,8 +83,8 @@ not_fault None e = cc
 not_fault (Some (Get q v)) e = cc
 not_fault (Some (Put q v)) e = cc
 not_fault (Some (Plus q v)) e = cc
-module _ (join : Joins) where
 
+module _ (join : Joins) where
   -- each is done, or one can move
   module _ (st : State) where
     pub moves : (k : ℕ) (t : Turn) (o : Option Act) → (o ≡ None) ⊎ ((new : State) × (step_by join st k t (Some (plain o)) ≡ Some new))
@@ -108,8 +108,8 @@ complete_or (x ∷ xs) (t ∷ ts) e a =
     go (Some b) h n r = inr (zero, record { part = x; turn = t; tree_at = refl; turn_at = refl; script_is = refl; next_at = n }, b, h)
     go None h n (inl c) = inl (n ∙ ap (λ o. Some (plain o)) h, c)
     go None h n (inr w) = let f = w.1 in inr (suc w.0, record { part = f.part; turn = f.turn; tree_at = f.tree_at; turn_at = f.turn_at; script_is = f.script_is; next_at = f.next_at }, w.2, w.3)
-module _ (join : Joins) (trades : Trades join) where
 
+module _ (join : Joins) (trades : Trades join) where
   pub law_goes : StatesGoOn join
   law_goes first xs st nest f = (no_fault, goes)
     where
@@ -184,8 +184,8 @@ cells_same (r ∷ m) (s ∷ n) l h =
     let e : length r ≡ length s = cc in
     let f : map length m ≡ map length n = cc in
     ap (λ z. z ∷ m) (row_same r s e (λ i. h (record { array = zero; at = i }))) ∙ ap (λ z. s ∷ z) (cells_same m n f (λ p. h (record { array = suc p.array; at = p.at })))
-module _ (join : Joins) (trades : Trades join) where
 
+module _ (join : Joins) (trades : Trades join) where
   pub law_end : EndsAreEqual join
   law_end first xs st other nest f g c d =
       let e = even_of join trades first (map script_of xs) nest.apart st f in
