@@ -3,11 +3,13 @@ mod CountLaws
 mod Elements
 mod Even
 mod JoinedLaws
+mod JoinedTraces
 mod NestPlays
 mod Orders
 mod Past
 mod PlayExamples
 mod PlayLaws
 mod Steps
+mod SwapLaws
 mod UnitLaws
 mod UnitRuns

@@ -3,4 +3,5 @@ pub mod Laws
 pub mod Orderly
 pub mod Scripts
 pub mod ScriptsOfRuns
+pub mod Swaps
 pub mod Trades

@@ -1,6 +1,7 @@
 //! The laws of interleavings.
 
-ghost use Rattle.bones_commute.specs.Laws.{AllStartsFollow, AllStepsFollow, AllStatesGoOn, AllEndsAreEqual};
+ghost use Rattle.bones_commute.specs.Joined.{JoinedNestsRun};
+ghost use Rattle.bones_commute.specs.Laws.{AllStartsFollow, AllStepsFollow, AllStatesGoOn, AllEndsAreEqual, AllSwap};
 ghost use Rattle.bones_commute.specs.Orderly.{OrderlyUnitsPlay, EveryInterleaving};
 
 /// Where the scripts of a nest's iterations fit its arrays and are apart, the nest begins in a state
@@ -21,4 +22,15 @@ pub fn law_end()
 pub fn law_plays()
     ensures any_join { OrderlyUnitsPlay }
     ensures of_sums { EveryInterleaving }
+{}
+
+/// Two nests, one after another, end where the nest of their pairs of iterations does, if the pairs
+/// are apart; and this nest can be played.
+pub fn law_joined()
+    ensures { JoinedNestsRun }
+{}
+
+/// Two actions on different elements, two reads, and two additions do the same in either order.
+pub fn law_swap()
+    ensures { AllSwap }
 {}

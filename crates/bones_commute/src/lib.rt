@@ -3,4 +3,4 @@
 
 mod laws;
 
-pub use laws::{law_end, law_plays, law_step};
+pub use laws::{law_end, law_joined, law_plays, law_step, law_swap};

@@ -1,3 +1,4 @@
+pub mod Acted
 pub mod Courses
 pub mod Gatherings
 pub mod Plays
