@@ -3,9 +3,9 @@ use Rattle.std.proofs.Common.{◌≡◌, ◌≢◌, ℕ, zero, suc, List, [], �
 use Rattle.std.proofs.lemmas.Bool.{cases_Bool}
 use Rattle.std.specs.Prelude.{◌||◌, if◌then◌else◌}
 use Rattle.species_ast.specs.declared.tree.Value.{Value}
-use Rattle.species_ast.specs.Accesses.{Joins, Element, element_eq, Cells, look, cell, changed, Tree, Ret, Stop, Read, Write, Add, then_do, Outcome, Ended, Stopped, run}
+use Rattle.species_ast.specs.Accesses.{Joins, Element, element_eq, Cells, look, cell, Tree, Ret, Stop, Read, Write, Add, then_do, Ended, run}
 use Rattle.species_nests.specs.Nests.{arrays_of, then_all, run_all}
-use Rattle.bones_commute.specs.Scripts.{Act, Get, Put, Plus, act_on, told, Ends, Scripted, script_of, AllEnd, reads, writes, adds, value_after, through, FitsFrom, nth, AreApart, trees}
+use Rattle.bones_commute.specs.Scripts.{Act, Get, Put, Plus, told, Ends, Scripted, script_of, AllEnd, reads, writes, adds, value_after, through, FitsFrom, nth, AreApart, trees}
 use Rattle.bones_commute.specs.ScriptsOfRuns.{play, trace, left_by, scripts}
 use Rattle.bones_commute.specs.Joined.{both, pairs}
 use Rattle.bones_commute.proofs.Elements.{or_false, play_look, through_same, through_both, after_append, after_silent, after_trade}

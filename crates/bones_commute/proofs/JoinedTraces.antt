@@ -1,10 +1,10 @@
 -- The law of the joined nest: its iterations make the accesses of the two nests, and it ends in the same arrays.
-use Rattle.std.proofs.Common.{◌≡◌, refl, ap, sym, ◌∙◌, subst, List, [], ◌∷◌, ◌++◌, map, length, Some}
+use Rattle.std.proofs.Common.{◌≡◌, refl, ap, sym, ◌∙◌, subst, List, [], ◌∷◌, ◌++◌, map, Some}
 use Rattle.std.proofs.lemmas.List.{map-append}
 use Rattle.species_ast.specs.declared.tree.Value.{Value}
-use Rattle.species_ast.specs.Accesses.{Joins, Element, Cells, cell, changed, added, Tree, Ret, Stop, Read, Write, Add, then_do, Outcome, Ended, Stopped, run, Reads, Writes, Adds, Access, access, accesses}
+use Rattle.species_ast.specs.Accesses.{Joins, Element, Cells, cell, Tree, Ret, Stop, Read, Write, Add, then_do, Ended, run, Reads, Writes, Adds, Access, access, accesses}
 use Rattle.species_nests.specs.Nests.{arrays_of, run_all, then_traces, traces}
-use Rattle.bones_commute.specs.Scripts.{Act, Get, Put, Plus, AreApart}
+use Rattle.bones_commute.specs.Scripts.{Act, Get, AreApart}
 use Rattle.bones_commute.specs.ScriptsOfRuns.{trace, left_by, scripts}
 use Rattle.bones_commute.specs.Joined.{both, pairs, JoinedNestsRun}
 use Rattle.bones_commute.proofs.Apart.{act_of, scripts_are, are_apart}

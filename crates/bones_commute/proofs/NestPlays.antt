@@ -5,7 +5,7 @@ use Rattle.species_ast.specs.declared.tree.Value.{Value}
 use Rattle.species_ast.specs.Accesses.{Joins, Element, element_eq, Cells, changed, look, cell, Tree, Ret, Stop, Read, Write, Add, Outcome, Ended, Stopped, run}
 use Rattle.species_ast.specs.declared.action.Action.{Action}
 use Rattle.species_ast.specs.declared.action.Action.TheVariants as action
-use Rattle.species_ast.specs.declared.action.Action.TheVariants.{Done, Fault}
+use Rattle.species_ast.specs.declared.action.Action.TheVariants.{Fault}
 use Rattle.species_ast.specs.declared.tree.Value.TheVariants.{Int}
 use Rattle.species_ast.specs.Evaluation.{Frame}
 use Rattle.species_nests.specs.Nests.{arrays_of, then_all, run_all}

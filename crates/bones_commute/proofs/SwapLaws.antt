@@ -1,16 +1,16 @@
 -- Two actions on different elements, two reads, and two additions do the same in either order.
-use Rattle.std.proofs.Common.{◌≡◌, refl, ap, sym, ◌∙◌, ℕ, List, [], ◌∷◌, map, length, Bool, true, false, Option, Some, None, inl, inr, ◌⊎◌, ⊎_elim}
+use Rattle.std.proofs.Common.{◌≡◌, refl, ap, sym, ◌∙◌, map, length, Bool, true, false, Some, inl, inr, ◌⊎◌, ⊎_elim}
 use Rattle.std.proofs.lemmas.Bool.{cases_Bool}
 use Rattle.std.specs.Prelude.{if◌then◌else◌, unwrap_or, pos}
 use Rattle.species_ast.specs.declared.action.Action.{Action}
 use Rattle.species_ast.specs.declared.action.Action.TheVariants as action
 use Rattle.species_ast.specs.declared.tree.Value.{Value}
 use Rattle.species_ast.specs.declared.tree.Value.TheVariants.{Int}
-use Rattle.species_ast.specs.Accesses.{Joins, Element, element_eq, Cells, look, cell}
+use Rattle.species_ast.specs.Accesses.{Joins, Element, element_eq, Cells, look}
 use Rattle.bones_meaning.specs.Acted.{acted, answer}
 use Rattle.bones_meaning.specs.Plays.{element}
 use Rattle.bones_commute.specs.Scripts.{Put, Plus, through}
-use Rattle.bones_commute.specs.Swaps.{named, is_read, is_add, NameOthers, CanSwap, AreOfOtherOrder}
+use Rattle.bones_commute.specs.Swaps.{named, is_read, is_add, CanSwap, AreOfOtherOrder}
 use Rattle.bones_commute.specs.Trades.{Trades}
 use Rattle.bones_commute.proofs.Elements.{element_same, act_look, through_id, through_both, through_same}
 use Rattle.bones_commute.proofs.Even.{sizes_act}

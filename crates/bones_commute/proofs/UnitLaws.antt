@@ -1,6 +1,5 @@
 -- Every play of an orderly unit ends in the arrays of its run.
-use Rattle.species_ast.specs.Accesses.{sums, Ended}
-use Rattle.species_ast.specs.Run.{source_run}
+use Rattle.species_ast.specs.Accesses.{sums}
 use Rattle.species_nests.proofs.MarkLaws.{source_ends}
 use Rattle.species_nests.proofs.SumLaws.{added_trade}
 use Rattle.bones_meaning.specs.Gatherings.{sum_gatherings}

@@ -33,7 +33,7 @@ use Rattle.species_nests.proofs.NestFits.{nest_fits, nest_quiet}
 use Rattle.species_nests.proofs.NestLaws.{keeps_frames, nest_is, band_ran, loops_own, headers_are}
 use Rattle.species_nests.proofs.StaysLaws.{iteration_does}
 use Rattle.bones_meaning.specs.Gatherings.{Gatherings}
-use Rattle.bones_meaning.specs.Courses.{Course, Over, Halt, Reading, Writing, Adding, Together, and_then, after, Part, Coursing, course_list, course_scope, course_turns, sequential, by_mark, part_at, coursing_at, part, course_of}
+use Rattle.bones_meaning.specs.Courses.{Course, Over, Halt, Reading, Writing, Adding, Together, and_then, after, Coursing, course_list, course_scope, course_turns, sequential, by_mark, part_at, coursing_at, part, course_of}
 use Rattle.bones_commute.specs.Orderly.{IsOrderlyRunning, IsOrderly, CanBePlayed, RunsTo}
 use Rattle.bones_commute.specs.Trades.{Trades}
 

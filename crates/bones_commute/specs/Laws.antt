@@ -1,6 +1,6 @@
 -- The laws, for all joins in which the order of what is joined does not matter.
 use Rattle.std.specs.Prelude.{List, map}
-use Rattle.species_ast.specs.Accesses.{Joins, Cells, Tree}
+use Rattle.species_ast.specs.Accesses.{Joins, Cells}
 use Rattle.species_ast.specs.Evaluation.{Frame}
 use Rattle.species_ast.specs.declared.action.Action.{Action}
 use Rattle.bones_meaning.specs.Acted.{acted, answer}

@@ -1,5 +1,5 @@
 -- The scripts of a run, and the plays of one nest.
-use Rattle.std.specs.Prelude.{◌≡◌, ℕ, ◌+◌, List, [], ◌∷◌, length, Option, Some, None}
+use Rattle.std.specs.Prelude.{ℕ, ◌+◌, List, [], ◌∷◌, length, Option, Some, None}
 use Rattle.species_ast.specs.Accesses.{Joins, Cells, cell, changed, Tree, Ret, Stop, Read, Write, Add, Outcome, Ended, Stopped, run}
 use Rattle.bones_meaning.specs.Plays.{State, step_of}
 use Rattle.bones_commute.specs.Scripts.{Act, Get, Put, Plus, act_on}
