@@ -7,7 +7,7 @@ use Rattle.std.proofs.lemmas.List.{take_more, take_all}
 use Rattle.std.proofs.lemmas.Int.{ints, to_z-of_z, fits_signed_from_abs}
 use Rattle.std.proofs.lemmas.Bool.{and_parts}
 use Rattle.species_integers.proofs.Sizes.{abs_neg}
-use Rattle.species_ast.specs.Scope.Forms.{is_within, one_at, iterator_form, sums}
+use Rattle.species_ast.specs.Scope.Forms.{is_within, one_at, iterator_form, added_coefficients}
 use Rattle.species_affine.specs.Limited.{IsWithin, IsLimited}
 
 -- a number within the limit passes through a word unchanged
@@ -41,27 +41,27 @@ one_length (suc n) = omega (arith, one_length n)
 pub iterator_limited : (n : ℕ) → n < 2 ^ 32 → IsLimited (iterator_form n)
 iterator_limited n h = (omega arith, one_within n, omega (arith, one_length n))
 
--- ---- sums
+-- ---- added coefficients
 
-pub sums_length : (cs ds : List ℤ) → length (sums cs ds) ≡ max (length cs) (length ds)
-sums_length [] ds = omega arith
-sums_length (c ∷ cs) [] = omega arith
-sums_length (c ∷ cs) (d ∷ ds) = omega (arith, sums_length cs ds)
+pub added_length : (cs ds : List ℤ) → length (added_coefficients cs ds) ≡ max (length cs) (length ds)
+added_length [] ds = omega arith
+added_length (c ∷ cs) [] = omega arith
+added_length (c ∷ cs) (d ∷ ds) = omega (arith, added_length cs ds)
 
-pub sums_at : (cs ds : List ℤ) (k : ℕ) → slice_index_or (sums cs ds) k (pos 0) ≡ slice_index_or cs k (pos 0) +ℤ slice_index_or ds k (pos 0)
-sums_at [] ds k = omega (arith, ints)
-sums_at (c ∷ cs) [] k = omega (arith, ints)
-sums_at (c ∷ cs) (d ∷ ds) zero = refl
-sums_at (c ∷ cs) (d ∷ ds) (suc k) = sums_at cs ds k
+pub added_at : (cs ds : List ℤ) (k : ℕ) → slice_index_or (added_coefficients cs ds) k (pos 0) ≡ slice_index_or cs k (pos 0) +ℤ slice_index_or ds k (pos 0)
+added_at [] ds k = omega (arith, ints)
+added_at (c ∷ cs) [] k = omega (arith, ints)
+added_at (c ∷ cs) (d ∷ ds) zero = refl
+added_at (c ∷ cs) (d ∷ ds) (suc k) = added_at cs ds k
 
-pub sums_next : (cs ds out : List ℤ) (i : ℕ) (x : ℤ) → i < max (length cs) (length ds) → out ≡ take i (sums cs ds) →
-    x ≡ slice_index_or cs i (pos 0) +ℤ slice_index_or ds i (pos 0) → out ++ x ∷ [] ≡ take (i + 1) (sums cs ds)
-sums_next cs ds out i x below so next =
-    let within : i < length (sums cs ds) = omega (arith, below, sums_length cs ds) in
-    rw (so, next, ← sums_at cs ds i) (sym (take_more (sums cs ds) i (pos 0) within))
+pub added_next : (cs ds out : List ℤ) (i : ℕ) (x : ℤ) → i < max (length cs) (length ds) → out ≡ take i (added_coefficients cs ds) →
+    x ≡ slice_index_or cs i (pos 0) +ℤ slice_index_or ds i (pos 0) → out ++ x ∷ [] ≡ take (i + 1) (added_coefficients cs ds)
+added_next cs ds out i x below so next =
+    let within : i < length (added_coefficients cs ds) = omega (arith, below, added_length cs ds) in
+    rw (so, next, ← added_at cs ds i) (sym (take_more (added_coefficients cs ds) i (pos 0) within))
 
-pub sums_done : (cs ds out : List ℤ) (i : ℕ) → max (length cs) (length ds) ≤ i → out ≡ take i (sums cs ds) → out ≡ sums cs ds
-sums_done cs ds out i over so = so ∙ take_all i (sums cs ds) (omega (arith, over, sums_length cs ds))
+pub added_done : (cs ds out : List ℤ) (i : ℕ) → max (length cs) (length ds) ≤ i → out ≡ take i (added_coefficients cs ds) → out ≡ added_coefficients cs ds
+added_done cs ds out i over so = so ∙ take_all i (added_coefficients cs ds) (omega (arith, over, added_length cs ds))
 
 -- ---- negations
 

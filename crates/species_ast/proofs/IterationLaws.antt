@@ -5,6 +5,7 @@ use Rattle.species_ast.specs.declared.tree.Expr.{Expr}
 use Rattle.species_ast.specs.declared.tree.Stmt.{Stmt, fold-Stmt}
 use Rattle.species_ast.specs.declared.tree.Stmt.TheOpen.{Stmt-F, Loop-F}
 use Rattle.species_ast.specs.declared.tree.Loop.{roll-Loop}
+use Rattle.species_ast.specs.Marks.{all_true}
 use Rattle.species_ast.specs.Operators.{converted}
 use Rattle.species_ast.specs.Accesses.{Forbidden, Ret, Stop, Add, then_do}
 use Rattle.species_ast.specs.Evaluation.{Context, Sense, sense, array_kind, local_kind, with_local, site_at, element_at, elements_in, target_of}
@@ -16,11 +17,6 @@ use Rattle.species_ast.proofs.RunLaws.{step-Assign, step-AddTo, step-Declare, st
 -- the same declarations, where other locals may be set and other arrays added to
 abbrev pub with_leave : Context → (ℕ → Bool) → Takes → Context
 with_leave w may_set may_add = record w { may_set = may_set; may_add = may_add }
-
--- all of a list are true
-abbrev pub all_true : List Bool → Bool
-all_true [] = true
-all_true (b ∷ bs) = b && all_true bs
 
 -- whether a statement sets only locals that it may set, and adds atomically only to arrays to which it may, at any depth
 abbrev pub stays_at : Context → Stmt-F Bool Bool → Bool

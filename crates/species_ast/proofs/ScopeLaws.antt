@@ -22,7 +22,7 @@ use Rattle.species_ast.specs.declared.raw.RawWhat.TheOpen.{RawWhat-F, RawLoop-F}
 use Rattle.species_ast.specs.declared.raw.RawWhat.TheVariants as what
 use Rattle.species_ast.specs.Scope.Meanings.{Scope, meaning_of}
 use Rattle.species_ast.specs.Scope.Expressions.{ExprReading, ResolvedTarget, reading, target_in, taken, term_at, expr_at, target_at, one_part, two_parts, unary_expr, exprs_of, names_of}
-use Rattle.species_ast.specs.Scope.Statements.{Walk, PlacedWalk, Parts, in_order, declarator, change_piece, step_reading, loop_piece, if_piece, block_piece, empty_piece, atomic_piece, what_at, loop_at, stmt_at, stmt_piece}
+use Rattle.species_ast.specs.Scope.Statements.{Walk, PlacedWalk, Parts, in_order, declarator, change_fragment, step_reading, loop_fragment, if_fragment, block_fragment, empty_fragment, atomic_fragment, what_at, loop_at, stmt_at, stmt_fragment}
 
 -- ---- expressions
 
@@ -81,51 +81,51 @@ target_in-target n subs s = fold-roll-RawTarget ExprReading ExprReading Resolved
 
 -- ---- statements
 
-abbrev what_piece : RawWhat → PlacedWalk
-what_piece = fold-RawWhat PlacedWalk PlacedWalk Walk what_at loop_at stmt_at
+abbrev what_fragment : RawWhat → PlacedWalk
+what_fragment = fold-RawWhat PlacedWalk PlacedWalk Walk what_at loop_at stmt_at
 
-stands : (p : ℕ) (w : RawWhat) → stmt_piece (statement p w) ≡ what_piece w p
+stands : (p : ℕ) (w : RawWhat) → stmt_fragment (statement p w) ≡ what_fragment w p
 stands p w = fold-roll-RawStmt PlacedWalk PlacedWalk Walk what_at loop_at stmt_at (record { place = p; what = w })
 
 abbrev loop_walk : RawLoop → PlacedWalk
 loop_walk = fold-RawLoop PlacedWalk PlacedWalk Walk what_at loop_at stmt_at
 
-rolled_what : (p : ℕ) (f : RawWhat-F RawWhat RawLoop RawStmt) → what_piece (roll-RawWhat f) p
-    ≡ what_at (map-RawWhat RawWhat RawLoop RawStmt PlacedWalk PlacedWalk Walk what_piece loop_walk stmt_piece f) p
+rolled_what : (p : ℕ) (f : RawWhat-F RawWhat RawLoop RawStmt) → what_fragment (roll-RawWhat f) p
+    ≡ what_at (map-RawWhat RawWhat RawLoop RawStmt PlacedWalk PlacedWalk Walk what_fragment loop_walk stmt_fragment f) p
 rolled_what p f = ap (λ w. w p) (fold-roll-RawWhat PlacedWalk PlacedWalk Walk what_at loop_at stmt_at f)
 
-pub stmt_piece-Declare : (p : ℕ) (k : Kind) (locals : List RawLocal)
-    → stmt_piece (statement p (what.Declare k locals)) ≡ in_order (map (declarator k) locals)
-stmt_piece-Declare p k locals =
-    stands p (what.Declare k locals) ∙ ap (λ w. what_piece w p) (sym (what.rolls-Declare k locals)) ∙ rolled_what p (RawWhat-F.Declare k locals)
+pub stmt_fragment-Declare : (p : ℕ) (k : Kind) (locals : List RawLocal)
+    → stmt_fragment (statement p (what.Declare k locals)) ≡ in_order (map (declarator k) locals)
+stmt_fragment-Declare p k locals =
+    stands p (what.Declare k locals) ∙ ap (λ w. what_fragment w p) (sym (what.rolls-Declare k locals)) ∙ rolled_what p (RawWhat-F.Declare k locals)
 
-pub stmt_piece-Block : (p : ℕ) (body : List RawStmt) → stmt_piece (statement p (what.Block body)) ≡ block_piece (map stmt_piece body)
-stmt_piece-Block p body =
-    stands p (what.Block body) ∙ ap (λ w. what_piece w p) (sym (what.rolls-Block body)) ∙ rolled_what p (RawWhat-F.Block body)
+pub stmt_fragment-Block : (p : ℕ) (body : List RawStmt) → stmt_fragment (statement p (what.Block body)) ≡ block_fragment (map stmt_fragment body)
+stmt_fragment-Block p body =
+    stands p (what.Block body) ∙ ap (λ w. what_fragment w p) (sym (what.rolls-Block body)) ∙ rolled_what p (RawWhat-F.Block body)
 
-pub stmt_piece-Empty : (p : ℕ) → stmt_piece (statement p what.Empty) ≡ empty_piece
-stmt_piece-Empty p = stands p what.Empty ∙ ap (λ w. what_piece w p) (sym what.rolls-Empty) ∙ rolled_what p RawWhat-F.Empty
+pub stmt_fragment-Empty : (p : ℕ) → stmt_fragment (statement p what.Empty) ≡ empty_fragment
+stmt_fragment-Empty p = stands p what.Empty ∙ ap (λ w. what_fragment w p) (sym what.rolls-Empty) ∙ rolled_what p RawWhat-F.Empty
 
-pub stmt_piece-If : (p : ℕ) (test : RawExpr) (body : RawStmt)
-    → stmt_piece (statement p (what.If test body None)) ≡ if_piece p (reading test) (stmt_piece body) None
-stmt_piece-If p test body =
-    stands p (what.If test body None) ∙ ap (λ w. what_piece w p) (sym (what.rolls-If test body None)) ∙ rolled_what p (RawWhat-F.If test body None)
+pub stmt_fragment-If : (p : ℕ) (test : RawExpr) (body : RawStmt)
+    → stmt_fragment (statement p (what.If test body None)) ≡ if_fragment p (reading test) (stmt_fragment body) None
+stmt_fragment-If p test body =
+    stands p (what.If test body None) ∙ ap (λ w. what_fragment w p) (sym (what.rolls-If test body None)) ∙ rolled_what p (RawWhat-F.If test body None)
 
-pub stmt_piece-IfElse : (p : ℕ) (test : RawExpr) (body otherwise : RawStmt)
-    → stmt_piece (statement p (what.If test body (Some otherwise))) ≡ if_piece p (reading test) (stmt_piece body) (Some (stmt_piece otherwise))
-stmt_piece-IfElse p test body otherwise =
+pub stmt_fragment-IfElse : (p : ℕ) (test : RawExpr) (body otherwise : RawStmt)
+    → stmt_fragment (statement p (what.If test body (Some otherwise))) ≡ if_fragment p (reading test) (stmt_fragment body) (Some (stmt_fragment otherwise))
+stmt_fragment-IfElse p test body otherwise =
     stands p (what.If test body (Some otherwise))
-    ∙ ap (λ w. what_piece w p) (sym (what.rolls-If test body (Some otherwise)))
+    ∙ ap (λ w. what_fragment w p) (sym (what.rolls-If test body (Some otherwise)))
     ∙ rolled_what p (RawWhat-F.If test body (Some otherwise))
 
-pub stmt_piece-Change : (p : ℕ) (c : RawChange) → stmt_piece (statement p (what.Change c)) ≡ change_piece p c
-stmt_piece-Change p c =
-    stands p (what.Change c) ∙ ap (λ w. what_piece w p) (sym (what.rolls-Change c)) ∙ rolled_what p (RawWhat-F.Change c)
+pub stmt_fragment-Change : (p : ℕ) (c : RawChange) → stmt_fragment (statement p (what.Change c)) ≡ change_fragment p c
+stmt_fragment-Change p c =
+    stands p (what.Change c) ∙ ap (λ w. what_fragment w p) (sym (what.rolls-Change c)) ∙ rolled_what p (RawWhat-F.Change c)
 
-pub stmt_piece-Atomic : (p : ℕ) (t : RawTarget) (e : RawExpr)
-    → stmt_piece (statement p (what.Atomic t e)) ≡ atomic_piece p (target_in t) (reading e)
-stmt_piece-Atomic p t e =
-    stands p (what.Atomic t e) ∙ ap (λ w. what_piece w p) (sym (what.rolls-Atomic t e)) ∙ rolled_what p (RawWhat-F.Atomic t e)
+pub stmt_fragment-Atomic : (p : ℕ) (t : RawTarget) (e : RawExpr)
+    → stmt_fragment (statement p (what.Atomic t e)) ≡ atomic_fragment p (target_in t) (reading e)
+stmt_fragment-Atomic p t e =
+    stands p (what.Atomic t e) ∙ ap (λ w. what_fragment w p) (sym (what.rolls-Atomic t e)) ∙ rolled_what p (RawWhat-F.Atomic t e)
 
 -- a loop's parts, each as what it becomes
 abbrev pub parts_in : RawLoop-F RawWhat RawLoop RawStmt → Parts
@@ -141,13 +141,13 @@ parts_in l = record {
   limit = reading l.limit;
   limit_place = place_of l.limit;
   step = step_reading l.step;
-  body = stmt_piece l.body;
+  body = stmt_fragment l.body;
 }
 
-pub stmt_piece-Loop : (p : ℕ) (l : RawLoop-F RawWhat RawLoop RawStmt)
-    → stmt_piece (statement p (what.Loop (roll-RawLoop l))) ≡ loop_piece (parts_in l) p
-stmt_piece-Loop p l =
+pub stmt_fragment-Loop : (p : ℕ) (l : RawLoop-F RawWhat RawLoop RawStmt)
+    → stmt_fragment (statement p (what.Loop (roll-RawLoop l))) ≡ loop_fragment (parts_in l) p
+stmt_fragment-Loop p l =
     stands p (what.Loop (roll-RawLoop l))
-    ∙ ap (λ w. what_piece w p) (sym (what.rolls-Loop (roll-RawLoop l)))
+    ∙ ap (λ w. what_fragment w p) (sym (what.rolls-Loop (roll-RawLoop l)))
     ∙ rolled_what p (RawWhat-F.Loop (roll-RawLoop l))
     ∙ ap (λ w. w p) (fold-roll-RawLoop PlacedWalk PlacedWalk Walk what_at loop_at stmt_at l)

@@ -37,6 +37,3 @@ pub use tree::{
     Array, Binary, Expr, Kind, LocalInfo, Loop, Mark, Schedule, Stmt, Test, Unary, Unit, Value,
 };
 pub use words::{MOST_BYTES, MOST_LOAD, is_keyword, is_one_of, punctuator_len};
-
-#[cfg(test)]
-mod tests;

@@ -11,7 +11,7 @@ use Rattle.species_ast.specs.Text.Numbers.{run_more, literal_of, or_else}
 use Rattle.species_ast.specs.Text.Words.{is_keyword, punctuator_len}
 use Rattle.species_ast.specs.Text.Parts.{Part, is, is_nothing, parts_of, offset_of, after_words}
 use Rattle.species_ast.specs.Text.Pragmas.{schedule_of, depth_of, parallel_with, parallel_of, atomic_of, openmp_of}
-use Rattle.species_ast.specs.Text.Directives.{Form, Skipped, Read, Macro, Wrong, formless, header_len, is_gap, include_with, include_of, is_first_in, is_name, define_as, define_of, is_end, species_of, openmp_form, pragma_with, unless_backslash, pragma_of, parts_form, first_word, is_include, form_of}
+use Rattle.species_ast.specs.Text.Directives.{Form, Skipped, Read, Macro, Wrong, formless, header_len, is_gap, include_with, include_of, is_first_in, is_macro_name, define_as, define_of, is_end_of_kernel, species_of, openmp_form, pragma_with, unless_backslash, pragma_of, parts_form, first_word, is_include, form_of}
 use Rattle.species_ast.specs.Text.Pieces.{Piece, Space, Lexeme, line_comment, block_comment, number, punctuator, unless_spliced, directive, Start, Blank, LineComment, BlockComment, Letter, Digit, Hash, Other, start_of, piece_in, piece_of}
 use Rattle.species_ast.specs.Text.Stream.{is_definition}
 
@@ -67,7 +67,7 @@ plain_include bytes (Some n) = plain_if (is_gap (drop n bytes)) (Read (take n by
 
 plain_define_as : (name : Part) (ps : List Part) → PlainForm (define_as name ps)
 plain_define_as name [] = tt
-plain_define_as name (run ∷ ps) = plain_if (is_name name && is_first_in is_digit run.text && is_nothing ps) (Macro name.text run) formless tt tt
+plain_define_as name (run ∷ ps) = plain_if (is_macro_name name && is_first_in is_digit run.text && is_nothing ps) (Macro name.text run) formless tt tt
 
 plain_define : (ps : List Part) → PlainForm (define_of ps)
 plain_define [] = tt
@@ -75,7 +75,7 @@ plain_define (name ∷ ps) = plain_define_as name ps
 
 plain_species : (line : List ℕ) (ps : List Part) → PlainForm (species_of line ps)
 plain_species line [] = tt
-plain_species line (p ∷ ps) = plain_if (is_end p ps) Skipped _ tt refl
+plain_species line (p ∷ ps) = plain_if (is_end_of_kernel p ps) Skipped _ tt refl
 
 plain_openmp_form : (line : List ℕ) (o : Option TokenKind) → PlainOption o → PlainForm (openmp_form line o)
 plain_openmp_form line None h = tt

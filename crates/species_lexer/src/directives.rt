@@ -1,7 +1,7 @@
 ghost use Rattle.std.specs.Prelude.{◌≡◌, ◌≤◌, ◌<◌, ◌^◌, ◌+◌, codes, length, option_map, IfSome, position, nat_eq};
 ghost use Rattle.species_ast.specs.Text.Characters.{is_letter, is_digit};
 ghost use Rattle.species_ast.specs.Text.Parts.{parts_end, offset_of};
-ghost use Rattle.species_ast.specs.Text.Directives.{closed_by, header_len, is_gap, include_of, is_first_in, is_name, define_as, define_of, is_end, species_of, pragma_with, pragma_of, parts_form, content_form, is_include, form_of};
+ghost use Rattle.species_ast.specs.Text.Directives.{closed_by, header_len, is_gap, include_of, is_first_in, is_macro_name, define_as, define_of, is_end_of_kernel, species_of, pragma_with, pragma_of, parts_form, content_form, is_include, form_of};
 ghost use Rattle.species_lexer.specs.Seen.{seen_part};
 ghost use Rattle.species_lexer.specs.Parts.{parts_left};
 ghost use Rattle.species_lexer.specs.Forms.{seen_form};
@@ -87,8 +87,8 @@ fn begins_with_digit(text: &[u8]) -> bool
     }
 }
 
-fn is_name(part: Part) -> bool
-    ensures { result ≡ is_name (seen_part part.entry) }
+fn is_macro_name(part: Part) -> bool
+    ensures { result ≡ is_macro_name (seen_part part.entry) }
 {
     if begins_with_letter(part.text) {
         !is_keyword(part.text)
@@ -103,7 +103,7 @@ fn define_as<'a>(name: Part<'a>, parts: Parts<'a>) -> Form<'a>
     match parts.split_first() {
         None => Form::formless(),
         Some((run, others)) => {
-            if is_name(name) && begins_with_digit(run.text) && others.is_empty() {
+            if is_macro_name(name) && begins_with_digit(run.text) && others.is_empty() {
                 Form::Macro(name.text, run)
             } else {
                 Form::formless()
@@ -122,8 +122,8 @@ fn define_of<'a>(parts: Parts<'a>) -> Form<'a>
 }
 
 /// The word `endkernel`, which no array has for a name here.
-fn is_end(word: Part, parts: Parts) -> bool
-    ensures { result ≡ is_end (seen_part word.entry) (parts_left parts.entry) }
+fn is_end_of_kernel(word: Part, parts: Parts) -> bool
+    ensures { result ≡ is_end_of_kernel (seen_part word.entry) (parts_left parts.entry) }
 {
     match parts.split_first() {
         None => word.is(b"endkernel"),
@@ -171,7 +171,7 @@ fn species_of<'a>(line: &'a [u8], parts: Parts<'a>) -> Form<'a>
     match parts.split_first() {
         None => Form::Skipped,
         Some((word, others)) => {
-            if is_end(word, others) {
+            if is_end_of_kernel(word, others) {
                 Form::Skipped
             } else {
                 let size = parts_end(word.at, parts).saturating_sub(word.at);

@@ -12,7 +12,8 @@ use Rattle.species_ast.specs.Evaluation.{Frame, Context}
 use Rattle.species_ast.specs.Run.{Takes, source_context, iteration_in}
 use Rattle.species_ast.proofs.Folds.{fold_stmt-If, fold_stmt-For, fold_stmt-Block, fold_loop-out}
 use Rattle.species_ast.proofs.Induction.{Each, each_all, stmt_ind}
-use Rattle.species_ast.proofs.IterationLaws.{all_true, stays}
+use Rattle.species_ast.specs.Marks.{all_true}
+use Rattle.species_ast.proofs.IterationLaws.{stays}
 use Rattle.species_ast.proofs.Paras.{para_stmt-Assign, para_stmt-AddTo, para_stmt-Declare, para_stmt-SetLocal, para_stmt-If}
 use Rattle.species_runs.specs.Scopes.{outer_locals_set}
 use Rattle.species_runs.proofs.ScopeLaws.{and_true}

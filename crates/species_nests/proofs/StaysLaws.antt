@@ -11,7 +11,8 @@ use Rattle.species_ast.specs.Run.{Takes, locals_in, iteration_in, does_scope}
 use Rattle.species_ast.specs.Scope.Meanings.{is_among}
 use Rattle.species_ast.proofs.Folds.{fold_stmt-Assign, fold_stmt-AddTo, fold_stmt-Declare, fold_stmt-SetLocal, fold_stmt-If, fold_stmt-For, fold_stmt-Block, fold_loop}
 use Rattle.species_ast.proofs.Induction.{Each, each_all, stmt_ind}
-use Rattle.species_ast.proofs.IterationLaws.{Allowing, all_true, stays, stays_at, stays_in_loop, iteration_same}
+use Rattle.species_ast.specs.Marks.{all_true}
+use Rattle.species_ast.proofs.IterationLaws.{Allowing, stays, stays_at, stays_in_loop, iteration_same}
 use Rattle.species_runs.specs.Scopes.{sets_at, sets_of, sets_in, outer_locals_set}
 use Rattle.species_runs.proofs.FrameLaws.{AllMay, may_left, may_right, all_in, among_without}
 use Rattle.species_runs.proofs.ScopeLaws.{and_true, never_both}

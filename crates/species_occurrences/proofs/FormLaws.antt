@@ -7,7 +7,7 @@ use Rattle.std.proofs.lemmas.Int.{ints}
 use Rattle.std.proofs.lemmas.Bool.{and_parts}
 use Rattle.std.proofs.lemmas.Bool.Decides.{Decides-int_eq}
 use Rattle.species_integers.proofs.Products.{mul_zero, plus_mul, mul_assoc, mul_plus, neg_mul, mul_one, mul_swap}
-use Rattle.species_ast.specs.Scope.Forms.{Form, sum_of, form_value, constant_form, one_at, iterator_form, sums, sum_form, scaled, negated, is_constant}
+use Rattle.species_ast.specs.Scope.Forms.{Form, sum_of, form_value, constant_form, one_at, iterator_form, added_coefficients, sum_form, scaled, negated, is_constant}
 
 pub value-constant : (n : ℤ) (is : List ℤ) → form_value (constant_form n) is ≡ n
 value-constant n is = omega (arith, ints)
@@ -21,14 +21,14 @@ sum-one (suc level) (i ∷ is) = omega (arith, ints, sum-one level is)
 pub value-iterator : (level : ℕ) (is : List ℤ) → form_value (iterator_form level) is ≡ unwrap_or (slice_get is level) (pos 0)
 value-iterator level is = omega (arith, ints, sum-one level is)
 
-sum-sums : (cs ds is : List ℤ) → sum_of (sums cs ds) is ≡ sum_of cs is +ℤ sum_of ds is
-sum-sums [] ds is = omega (arith, ints)
-sum-sums (c ∷ cs) [] is = omega (arith, ints)
-sum-sums (c ∷ cs) (d ∷ ds) [] = refl
-sum-sums (c ∷ cs) (d ∷ ds) (i ∷ is) = omega (arith, ints, sum-sums cs ds is, plus_mul c d i)
+sum-added_coefficients : (cs ds is : List ℤ) → sum_of (added_coefficients cs ds) is ≡ sum_of cs is +ℤ sum_of ds is
+sum-added_coefficients [] ds is = omega (arith, ints)
+sum-added_coefficients (c ∷ cs) [] is = omega (arith, ints)
+sum-added_coefficients (c ∷ cs) (d ∷ ds) [] = refl
+sum-added_coefficients (c ∷ cs) (d ∷ ds) (i ∷ is) = omega (arith, ints, sum-added_coefficients cs ds is, plus_mul c d i)
 
 pub value-sum : (f g : Form) (is : List ℤ) → form_value (sum_form f g) is ≡ form_value f is +ℤ form_value g is
-value-sum f g is = omega (arith, ints, sum-sums f.coefficients g.coefficients is)
+value-sum f g is = omega (arith, ints, sum-added_coefficients f.coefficients g.coefficients is)
 
 sum-negated : (cs is : List ℤ) → sum_of (map neg_ℤ cs) is ≡ neg_ℤ (sum_of cs is)
 sum-negated [] is = refl

@@ -4,7 +4,7 @@ use Rattle.std.proofs.lemmas.Bool.{le-ltb}
 use Rattle.std.proofs.lemmas.List.{at_drop_more, take_all, length-drop}
 use Rattle.species_ast.specs.Token as ast
 use Rattle.species_ast.specs.Limits.{most_load}
-use Rattle.species_ast.specs.Text.Load.{Load, is_spelled, block_load, closed_blocks, counted, is_end, is_else_next, settled, first_above, load_refusal}
+use Rattle.species_ast.specs.Text.Load.{Load, is_spelled, block_load, closed_blocks, counted, ends_statement, is_else_next, settled, first_above, load_refusal}
 use Rattle.species_lexer.specs.Tokens.{seen_token}
 use Rattle.species_lexer.specs.declared.token.Token.{Token}
 use Rattle.species_parser.specs.Given.{seen_tokens}
@@ -65,7 +65,7 @@ settled_by true l = record { load = omega (arith, last_lower l.blocks); blocks =
 settled_by false l = record { load = omega arith; blocks = refl; brackets = refl }
 
 settled_to : (t : ast.Token) (ts : List ast.Token) (l : Load) → SettledTo l (settled t ts l)
-settled_to t ts l = settled_by (is_end t l && not (is_else_next ts)) l
+settled_to t ts l = settled_by (ends_statement t l && not (is_else_next ts)) l
 
 pub counts_next : (all : List Token) (i : ℕ) (l after next : Load) (d : Token) → Counts all i l → i < length all → after ≡ counted (seen_token (get_or all i d)) l → after.load ≤ most_load
     → next ≡ settled (seen_token (get_or all i d)) (seen_tokens (take (length all - (i + 1)) (drop (i + 1) all))) after → Counts all (i + 1) next

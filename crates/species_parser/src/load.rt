@@ -60,7 +60,7 @@ impl Model for Load {
 
 impl Load {
     ghost use Rattle.std.specs.Prelude.{◌+◌, OnOk};
-    ghost use Rattle.species_ast.specs.Text.Load.{counted, is_end, settled};
+    ghost use Rattle.species_ast.specs.Text.Load.{counted, ends_statement, settled};
 
     fn new(alloc: Global) -> Load
         ensures { result ≡ no_load }
@@ -91,8 +91,8 @@ impl Load {
         Ok(())
     }
 
-    fn is_end(&self, token: &Token<'_>) -> bool
-        ensures { result ≡ is_end (seen_token token.now) self.now }
+    fn ends_statement(&self, token: &Token<'_>) -> bool
+        ensures { result ≡ ends_statement (seen_token token.now) self.now }
     {
         is_spelled(token, b"}") || (is_spelled(token, b";") && self.brackets == 0)
     }
@@ -101,7 +101,7 @@ impl Load {
     fn settle(&mut self, token: &Token<'_>, rest: &[Token<'_>])
         ensures { self.new ≡ settled (seen_token token.now) (seen_tokens rest.now) self.old }
     {
-        if self.is_end(token) && !is_else_next(rest) {
+        if self.ends_statement(token) && !is_else_next(rest) {
             self.load = match self.blocks.last() {
                 Some(load) => *load,
                 None => 0,

@@ -2,6 +2,8 @@ ghost use Rattle.std.specs.Prelude.{IfOk, All};
 ghost use Rattle.species_ast.specs.declared.tree.Unit.{Unit};
 ghost use Rattle.species_print.specs.Named.{IsNamed, IsNamedLoop, HasHead};
 
+mod copies;
+
 use crate::{print, print_front, print_head, print_loop, print_stmt};
 use species_ast::{
     Array, Binary, Dims, Expr, Includes, Kind, LineText, LocalInfo, Loop, Mark, Name, OutOfMemory,

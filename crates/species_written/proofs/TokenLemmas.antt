@@ -15,7 +15,7 @@ use Rattle.species_ast.specs.Text.Numbers.{literal_of, run_more}
 use Rattle.species_ast.specs.Text.Words.{is_keyword, punctuator_len}
 use Rattle.species_ast.specs.Text.Parts.{Part, is, is_nothing, parts_of, parts_end, offset_of}
 use Rattle.species_ast.specs.Text.Pragmas.{openmp_of}
-use Rattle.species_ast.specs.Text.Directives.{Form, Skipped, Read, Macro, Wrong, form_of, formless, header_len, is_gap, include_with, include_of, is_first_in, is_name, define_as, define_of, is_end, species_of, openmp_form, pragma_with, unless_backslash, pragma_of, parts_form, content_form, first_word, is_include}
+use Rattle.species_ast.specs.Text.Directives.{Form, Skipped, Read, Macro, Wrong, form_of, formless, header_len, is_gap, include_with, include_of, is_first_in, is_macro_name, define_as, define_of, is_end_of_kernel, species_of, openmp_form, pragma_with, unless_backslash, pragma_of, parts_form, content_form, first_word, is_include}
 use Rattle.species_ast.specs.Text.Pieces.{Piece, Space, Lexeme, Define, Refused, line_comment, block_comment, word, number, punctuator, unless_spliced, directive, Start, Blank, LineComment, BlockComment, Letter, Digit, Hash, Other, start_of, piece_in, piece_of}
 use Rattle.species_ast.specs.Text.Stream.{TokenStream, Definition, look_up, named, define_once, in_scope, defined_by, head_behind, Cut, is_definition}
 use Rattle.species_ast.specs.Reading.{HasTokens}
@@ -37,7 +37,7 @@ deep_include bytes (Some n) = either_form (is_gap (drop n bytes)) (Read (take n 
 
 deep_define : (name : Part) (ps : List Part) → DeepForm (define_as name ps)
 deep_define name [] = tt
-deep_define name (run ∷ ps) = go (is_name name && is_first_in is_digit run.text && is_nothing ps)
+deep_define name (run ∷ ps) = go (is_macro_name name && is_first_in is_digit run.text && is_nothing ps)
   where
     go : (c : Bool) → DeepForm (if c then Macro name.text run else formless)
     go true = tt
@@ -53,7 +53,7 @@ deep_kind line (Some k) h = h
 
 deep_species : (line : List ℕ) (ps : List Part) → DeepForm (species_of line ps)
 deep_species line [] = tt
-deep_species line (p ∷ ps) = go (is_end p ps)
+deep_species line (p ∷ ps) = go (is_end_of_kernel p ps)
   where
     go : (c : Bool) → DeepForm (if c then Skipped else Read (slice_range line p.at (parts_end p.at (p ∷ ps))) kind.Species)
     go true = tt

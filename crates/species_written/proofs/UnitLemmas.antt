@@ -13,7 +13,7 @@ use Rattle.species_ast.specs.Grammar.Declarations.{ArrayDeclarator, MoreArrays, 
 use Rattle.species_ast.specs.Grammar.Units.{TranslationUnit}
 use Rattle.species_ast.specs.Scope.Meanings.{Meaning, Scope, scope_with, occurrence, Declared}
 use Rattle.species_ast.specs.Scope.Expressions.{ExprReading, reading, names_of}
-use Rattle.species_ast.specs.Scope.Statements.{in_order, stmt_piece}
+use Rattle.species_ast.specs.Scope.Statements.{in_order, stmt_fragment}
 use Rattle.species_ast.specs.Scope.Programs.{ArrayParts, SizeParts, size_parts, parts_of, globals_from, first_scope, arrays_of, program_of}
 use Rattle.species_ast.specs.Scope.Written.{statements_in}
 use Rattle.species_ast.proofs.ScopeLaws.{readings}
@@ -60,7 +60,7 @@ global_fits g ts (GlobalDeclaration.global p q k a rest ks xs us t d e) ps more 
 
 -- the function's name, and what stands in its body
 abbrev body_size : RawUnit → Scope → ℕ
-body_size u t = suc (noted (in_order (map stmt_piece u.body) t) + sum (map statements_in u.body))
+body_size u t = suc (noted (in_order (map stmt_fragment u.body) t) + sum (map statements_in u.body))
 
 unit_fits : (u : RawUnit) (ts : List Token) → TranslationUnit u ts → (t : Scope) → BehindFits (flat_map arrays_of u.items) (body_size u t) (length ts)
 unit_fits u ts (TranslationUnit.directive i w us d) t = λ n s. omega (arith, unit_fits w us d t n s)
@@ -75,5 +75,5 @@ pub program_fits : (u : RawUnit) (ts : List Token) → TranslationUnit u ts → 
 program_fits u ts d =
     let globals = globals_from 0 (flat_map arrays_of u.items) (first_scope []) in
     let inner = scope_with u.function Meaning.Function globals.next in
-    let own = occurrence Declared globals.next u.function ∷ (in_order (map stmt_piece u.body) inner).notes.names in
+    let own = occurrence Declared globals.next u.function ∷ (in_order (map stmt_fragment u.body) inner).notes.names in
     omega (arith, unit_fits u ts d inner 0 (first_scope []), length-append globals.names own)

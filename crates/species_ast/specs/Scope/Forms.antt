@@ -40,13 +40,13 @@ one_at (suc level) = pos 0 ∷ one_at level
 abbrev pub iterator_form : ℕ → Form
 iterator_form level = record { constant = pos 0; coefficients = one_at level }
 
-abbrev pub sums : List ℤ → List ℤ → List ℤ
-sums [] ds = ds
-sums (c ∷ cs) [] = c ∷ cs
-sums (c ∷ cs) (d ∷ ds) = (c +ℤ d) ∷ sums cs ds
+abbrev pub added_coefficients : List ℤ → List ℤ → List ℤ
+added_coefficients [] ds = ds
+added_coefficients (c ∷ cs) [] = c ∷ cs
+added_coefficients (c ∷ cs) (d ∷ ds) = (c +ℤ d) ∷ added_coefficients cs ds
 
 abbrev pub sum_form : Form → Form → Form
-sum_form f g = record { constant = f.constant +ℤ g.constant; coefficients = sums f.coefficients g.coefficients }
+sum_form f g = record { constant = f.constant +ℤ g.constant; coefficients = added_coefficients f.coefficients g.coefficients }
 
 abbrev pub scaled : ℤ → Form → Form
 scaled n f = record { constant = n *ℤ f.constant; coefficients = map (λ c. n *ℤ c) f.coefficients }

@@ -14,7 +14,7 @@ use Rattle.species_ast.specs.Grammar.Expressions.{place_of}
 use Rattle.species_ast.specs.Scope.Forms.{constant_of}
 use Rattle.species_ast.specs.Scope.Meanings.{Meaning, Scope, scope_with, Role, Declared, Iterates, Occurrence, occurrence}
 use Rattle.species_ast.specs.Scope.Expressions.{ExprReading, reading, names_of}
-use Rattle.species_ast.specs.Scope.Statements.{LoopSite, Walk, in_order, stmt_piece}
+use Rattle.species_ast.specs.Scope.Statements.{LoopSite, Walk, in_order, stmt_fragment}
 
 -- ---- arrays
 
@@ -128,4 +128,4 @@ in_two_walks walk =
 
 -- What a program becomes.
 abbrev pub program_of : RawUnit → Program
-program_of u = in_two_walks (program_with (filter_map header_of u.items) (flat_map arrays_of u.items) u.function (map stmt_piece u.body))
+program_of u = in_two_walks (program_with (filter_map header_of u.items) (flat_map arrays_of u.items) u.function (map stmt_fragment u.body))

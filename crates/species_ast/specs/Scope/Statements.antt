@@ -46,7 +46,7 @@ pub record LoopSite : Type 0 where
   pub one_variable : Bool
   pub step : Option ℤ
 
--- The locals that keep their declaration, the names and the loops of a piece of program, in the order of the text.
+-- The locals that keep their declaration, the names and the loops of a fragment of program, in the order of the text.
 pub record Notes : Type 0 where
   pub locals : List LocalInfo
   pub names : List Occurrence
@@ -61,9 +61,9 @@ names_only names = record { locals = []; names = names; loops = [] }
 abbrev pub both : Notes → Notes → Notes
 both a b = record { locals = a.locals ++ b.locals; names = a.names ++ b.names; loops = a.loops ++ b.loops }
 
--- What a piece of program becomes: the statements that it is in a list, and those that it is as the body of a loop or a
+-- What a fragment of program becomes: the statements that it is in a list, and those that it is as the body of a loop or a
 -- branch; what is noted; and the scope behind it.
-pub record Piece : Type 0 where
+pub record Fragment : Type 0 where
   pub statements : List Stmt
   pub body : List Stmt
   pub notes : Notes
@@ -71,22 +71,22 @@ pub record Piece : Type 0 where
 
 -- A statement waits for its scope; what it does, and a loop, wait for their place as well.
 abbrev pub Walk : Type 0
-Walk = Scope → Piece
+Walk = Scope → Fragment
 
 abbrev pub PlacedWalk : Type 0
-PlacedWalk = ℕ → Scope → Piece
+PlacedWalk = ℕ → Scope → Fragment
 
--- a piece that is the same in a list and as a body
-abbrev pub piece : List Stmt → Notes → Scope → Piece
-piece ss notes next = record { statements = ss; body = ss; notes = notes; next = next }
+-- a fragment that is the same in a list and as a body
+abbrev pub fragment : List Stmt → Notes → Scope → Fragment
+fragment ss notes next = record { statements = ss; body = ss; notes = notes; next = next }
 
--- one piece after another, each in the scope that the one before it leaves
+-- one fragment after another, each in the scope that the one before it leaves
 abbrev pub in_order : List Walk → Walk
-in_order [] s = piece [] no_notes s
+in_order [] s = fragment [] no_notes s
 in_order (p ∷ ps) s =
     let first = p s in
     let rest = in_order ps first.next in
-    piece (first.statements ++ rest.statements) (both first.notes rest.notes) rest.next
+    fragment (first.statements ++ rest.statements) (both first.notes rest.notes) rest.next
 
 -- ---- declarations (C17 6.7)
 
@@ -95,16 +95,16 @@ abbrev pub kept_local : Kind → Spelling → Option ExprReading → Scope → L
 kept_local k name init s = stmt.Declare name.place (local_number s s.serials) (option_map (λ r. r.expr) init) ∷ []
 
 -- A local is in scope in its own initialiser. One that is the iterator of a loop leaves nothing behind.
-abbrev pub local_piece : Kind → Spelling → Option (Scope → ExprReading) → Walk
-local_piece k name init s =
+abbrev pub local_fragment : Kind → Spelling → Option (Scope → ExprReading) → Walk
+local_fragment k name init s =
     let inner = scope_with_local name (record { serial = s.serials; kind = k; initialised = is_some init }) s in
     let value = option_map (λ read. read inner) init in
     let names = occurrence Declared s name ∷ unwrap_or (option_map (λ r. r.names) value) [] in
-    if is_among s.iterators s.serials then piece [] (names_only names) inner
-    else piece (kept_local k name value s) (record { locals = record { name = name.text; kind = k } ∷ []; names = names; loops = [] }) inner
+    if is_among s.iterators s.serials then fragment [] (names_only names) inner
+    else fragment (kept_local k name value s) (record { locals = record { name = name.text; kind = k } ∷ []; names = names; loops = [] }) inner
 
 abbrev pub declarator : Kind → RawLocal → Walk
-declarator k l = local_piece k l.name (option_map reading l.init)
+declarator k l = local_fragment k l.name (option_map reading l.init)
 
 -- ---- changes (C17 6.5.16, 6.5.2.4 and 6.5.3.1)
 
@@ -162,21 +162,21 @@ abbrev pub change_by : (Scope → ResolvedTarget → Expr → List Stmt) → (Sc
 change_by becomes target value s =
     let t = target s in
     let v = value s in
-    piece (becomes s t v.expr) (names_only (assigned_names s t ++ v.names)) s
+    fragment (becomes s t v.expr) (names_only (assigned_names s t ++ v.names)) s
 
 abbrev pub change_by_one : (Scope → ResolvedTarget → Expr → List Stmt) → (Scope → ResolvedTarget) → Walk
-change_by_one becomes target s = let t = target s in piece (becomes s t one) (names_only (assigned_names s t)) s
+change_by_one becomes target s = let t = target s in fragment (becomes s t one) (names_only (assigned_names s t)) s
 
-abbrev pub change_piece : ℕ → RawChange → Walk
-change_piece p (change.Set t o e) = change_by (λ s. operated s p o) (target_in t) (reading e)
-change_piece p (change.Up t) = change_by_one (λ s. increased s p false) (target_in t)
-change_piece p (change.UpBefore t) = change_by_one (λ s. increased s p false) (target_in t)
-change_piece p (change.Down t) = change_by_one (λ s. combined s p binary.Sub) (target_in t)
-change_piece p (change.DownBefore t) = change_by_one (λ s. combined s p binary.Sub) (target_in t)
+abbrev pub change_fragment : ℕ → RawChange → Walk
+change_fragment p (change.Set t o e) = change_by (λ s. operated s p o) (target_in t) (reading e)
+change_fragment p (change.Up t) = change_by_one (λ s. increased s p false) (target_in t)
+change_fragment p (change.UpBefore t) = change_by_one (λ s. increased s p false) (target_in t)
+change_fragment p (change.Down t) = change_by_one (λ s. combined s p binary.Sub) (target_in t)
+change_fragment p (change.DownBefore t) = change_by_one (λ s. combined s p binary.Sub) (target_in t)
 
 -- an addition under a pragma that makes it atomic
-abbrev pub atomic_piece : ℕ → (Scope → ResolvedTarget) → (Scope → ExprReading) → Walk
-atomic_piece p = change_by (λ s. increased s p true)
+abbrev pub atomic_fragment : ℕ → (Scope → ResolvedTarget) → (Scope → ExprReading) → Walk
+atomic_fragment p = change_by (λ s. increased s p true)
 
 -- ---- loops (C17 6.8.5)
 
@@ -249,8 +249,8 @@ abbrev pub is_one : Spelling → List Spelling → Bool
 is_one iter names = list_all (λ n. bytes_eq n.text iter.text) names
 
 -- A loop is a scope. Its start stands outside of it; limit, step and body stand inside.
-abbrev pub loop_piece : Parts → PlacedWalk
-loop_piece l p s =
+abbrev pub loop_fragment : Parts → PlacedWalk
+loop_fragment l p s =
     let inner = in_loop l.iter s in
     let start = l.start s in
     let limit = l.limit inner in
@@ -268,7 +268,7 @@ loop_piece l p s =
       one_variable = is_one l.iter others;
       step = by.number;
     } in
-    piece (stmt.For loop ∷ []) (both (record { locals = []; names = names; loops = site ∷ [] }) body.notes) (behind s body.next)
+    fragment (stmt.For loop ∷ []) (both (record { locals = []; names = names; loops = site ∷ [] }) body.notes) (behind s body.next)
 
 -- ---- blocks and branches (C17 6.8.2 and 6.8.4)
 
@@ -279,38 +279,38 @@ branch p s = let inner = p s in record inner { next = behind s inner.next }
 -- what stands behind `else`, if there is one
 abbrev pub else_branch : Option Walk → Walk
 else_branch (Some p) s = branch p s
-else_branch None s = piece [] no_notes s
+else_branch None s = fragment [] no_notes s
 
-abbrev pub if_piece : ℕ → (Scope → ExprReading) → Walk → Option Walk → Walk
-if_piece p test body otherwise s =
+abbrev pub if_fragment : ℕ → (Scope → ExprReading) → Walk → Option Walk → Walk
+if_fragment p test body otherwise s =
     let condition = test s in
     let first = branch body s in
     let second = else_branch otherwise first.next in
-    piece (stmt.If p condition.expr first.body second.body ∷ []) (both (names_only condition.names) (both first.notes second.notes)) second.next
+    fragment (stmt.If p condition.expr first.body second.body ∷ []) (both (names_only condition.names) (both first.notes second.notes)) second.next
 
 -- `{ .. }`: as a statement a block, and as a body its list
-abbrev pub block_piece : List Walk → Walk
-block_piece ss s =
+abbrev pub block_fragment : List Walk → Walk
+block_fragment ss s =
     let inner = in_order ss s in
     record { statements = stmt.Block inner.statements ∷ []; body = inner.statements; notes = inner.notes; next = behind s inner.next }
 
 -- an empty statement leaves nothing behind
-abbrev pub empty_piece : Walk
-empty_piece s = piece [] no_notes s
+abbrev pub empty_fragment : Walk
+empty_fragment s = fragment [] no_notes s
 
 -- ---- statements
 
 abbrev pub what_at : RawWhat-F PlacedWalk PlacedWalk Walk → PlacedWalk
 what_at (RawWhat-F.Declare k locals) p = in_order (map (declarator k) locals)
-what_at (RawWhat-F.Block ss) p = block_piece ss
-what_at RawWhat-F.Empty p = empty_piece
-what_at (RawWhat-F.If test body otherwise) p = if_piece p (reading test) body otherwise
+what_at (RawWhat-F.Block ss) p = block_fragment ss
+what_at RawWhat-F.Empty p = empty_fragment
+what_at (RawWhat-F.If test body otherwise) p = if_fragment p (reading test) body otherwise
 what_at (RawWhat-F.Loop l) p = l p
-what_at (RawWhat-F.Change c) p = change_piece p c
-what_at (RawWhat-F.Atomic t e) p = atomic_piece p (target_in t) (reading e)
+what_at (RawWhat-F.Change c) p = change_fragment p c
+what_at (RawWhat-F.Atomic t e) p = atomic_fragment p (target_in t) (reading e)
 
 abbrev pub loop_at : RawLoop-F PlacedWalk PlacedWalk Walk → PlacedWalk
-loop_at l = loop_piece (record {
+loop_at l = loop_fragment (record {
   line = l.line;
   parallel = l.parallel;
   typed = l.typed;
@@ -329,5 +329,5 @@ abbrev pub stmt_at : RawStmt-F PlacedWalk PlacedWalk Walk → Walk
 stmt_at s = s.what s.place
 
 -- What a statement becomes in a scope.
-abbrev pub stmt_piece : RawStmt → Walk
-stmt_piece = fold-RawStmt PlacedWalk PlacedWalk Walk what_at loop_at stmt_at
+abbrev pub stmt_fragment : RawStmt → Walk
+stmt_fragment = fold-RawStmt PlacedWalk PlacedWalk Walk what_at loop_at stmt_at

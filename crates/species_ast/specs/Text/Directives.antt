@@ -59,13 +59,13 @@ is_first_in is_in [] = false
 is_first_in is_in (b ∷ bytes) = is_in b
 
 -- a name that is no keyword
-abbrev pub is_name : Part → Bool
-is_name p = is_first_in is_letter p.text && not (is_keyword p.text)
+abbrev pub is_macro_name : Part → Bool
+is_macro_name p = is_first_in is_letter p.text && not (is_keyword p.text)
 
 abbrev pub define_as : Part → List Part → Form
 define_as name [] = formless
 define_as name (run ∷ ps) =
-    if is_name name && is_first_in is_digit run.text && is_nothing ps then Macro name.text run else formless
+    if is_macro_name name && is_first_in is_digit run.text && is_nothing ps then Macro name.text run else formless
 
 -- what stands behind the word `define`: a name, a number run, and nothing more
 abbrev pub define_of : List Part → Form
@@ -73,15 +73,15 @@ define_of [] = formless
 define_of (name ∷ ps) = define_as name ps
 
 -- the word `endkernel` that no `[` follows
-abbrev pub is_end : Part → List Part → Bool
-is_end word [] = is word (codes "endkernel")
-is_end word (p ∷ ps) = is word (codes "endkernel") && not (is p (codes "["))
+abbrev pub is_end_of_kernel : Part → List Part → Bool
+is_end_of_kernel word [] = is word (codes "endkernel")
+is_end_of_kernel word (p ∷ ps) = is word (codes "endkernel") && not (is p (codes "["))
 
 -- what stands behind the words `pragma species`: from its first part to its last
 abbrev pub species_of : List ℕ → List Part → Form
 species_of line [] = Skipped
 species_of line (p ∷ ps) =
-    if is_end p ps then Skipped
+    if is_end_of_kernel p ps then Skipped
     else Read (slice_range line p.at (parts_end p.at (p ∷ ps))) kind.Species
 
 -- the token's text is the whole line

@@ -41,8 +41,8 @@ counted t l =
     else record l { load = load }
 
 -- a `}`, or a `;` inside no `(`, ends what was unfinished
-abbrev pub is_end : Token → Load → Bool
-is_end t l = is_spelled t (codes "}") || (is_spelled t (codes ";") && nat_eq l.brackets 0)
+abbrev pub ends_statement : Token → Load → Bool
+ends_statement t l = is_spelled t (codes "}") || (is_spelled t (codes ";") && nat_eq l.brackets 0)
 
 abbrev pub is_else_next : List Token → Bool
 is_else_next [] = false
@@ -50,7 +50,7 @@ is_else_next (t ∷ ts) = is_spelled t (codes "else")
 
 -- the load behind a token that was counted, and before the tokens that follow it
 abbrev pub settled : Token → List Token → Load → Load
-settled t ts l = if is_end t l && not (is_else_next ts) then record l { load = block_load l.blocks } else l
+settled t ts l = if ends_statement t l && not (is_else_next ts) then record l { load = block_load l.blocks } else l
 
 -- the place of the first token with which the load is above a limit
 abbrev pub first_above : ℕ → Load → List Token → Option ℕ

@@ -1,4 +1,4 @@
--- Parts of programs of which is known what they become, for worked examples: each is a piece of the raw tree, what it becomes,
+-- Parts of programs of which is known what they become, for worked examples: each is a fragment of the raw tree, what it becomes,
 -- and that it does.
 use Rattle.std.proofs.Common.{◌≡◌, ◌∙◌, ap, refl, ℕ, ◌+◌, List, [], ◌∷◌, map, flat_map, Option, Some, None, option_map, Bool, true, false, pos, negsuc, neg_ℤ, Result, Err}
 use Rattle.std.specs.Prelude.{codes}
@@ -42,13 +42,13 @@ use Rattle.species_ast.specs.declared.raw.RawWhat.TheVariants as what
 use Rattle.species_ast.specs.declared.raw.RawUnit.{RawUnit}
 use Rattle.species_ast.specs.Scope.Meanings.{Scope}
 use Rattle.species_ast.specs.Scope.Expressions.{ExprReading, ResolvedTarget, reading, target_in, taken, one_part, two_parts, unary_expr}
-use Rattle.species_ast.specs.Scope.Statements.{Walk, StepReading, step_by, step_one, step_reading, in_order, local_piece, declarator, change_by, change_by_one, operated, increased, combined, atomic_piece, if_piece, block_piece, empty_piece, loop_piece, stmt_piece}
+use Rattle.species_ast.specs.Scope.Statements.{Walk, StepReading, step_by, step_one, step_reading, in_order, local_fragment, declarator, change_by, change_by_one, operated, increased, combined, atomic_fragment, if_fragment, block_fragment, empty_fragment, loop_fragment, stmt_fragment}
 use Rattle.species_ast.specs.Scope.Programs.{SizeParts, size_parts, ArrayParts, Program, program_with, in_two_walks, program_of, arrays_of, header_of}
 use Rattle.species_ast.specs.Scope.Refusals.{Refusal, Finding}
 use Rattle.species_ast.specs.Scope.Conditions.{resolution_of, resolved}
 use Rattle.species_ast.proofs.Folds.{fold_expr-Literal, fold_expr-Iter, fold_expr-Local, fold_expr-Elem, fold_expr-Unary, fold_expr-Binary, fold_stmt-Assign, fold_stmt-AddTo, fold_stmt-Declare, fold_stmt-SetLocal, fold_stmt-If, fold_stmt-For, fold_stmt-Block, fold_loop}
 use Rattle.species_ast.proofs.Paras.{para_expr-Literal, para_expr-Iter, para_expr-Local, para_expr-Elem, para_expr-Unary, para_expr-Binary, para_stmt-Assign, para_stmt-AddTo, para_stmt-Declare, para_stmt-SetLocal, para_stmt-If, para_stmt-For, para_stmt-Block, para_loop}
-use Rattle.species_ast.proofs.ScopeLaws.{reading-Number, reading-Target, reading-Unary, reading-Binary, readings, target_with, target_in-target, stmt_piece-Declare, stmt_piece-Block, stmt_piece-Empty, stmt_piece-If, stmt_piece-IfElse, stmt_piece-Change, stmt_piece-Atomic, stmt_piece-Loop}
+use Rattle.species_ast.proofs.ScopeLaws.{reading-Number, reading-Target, reading-Unary, reading-Binary, readings, target_with, target_in-target, stmt_fragment-Declare, stmt_fragment-Block, stmt_fragment-Empty, stmt_fragment-If, stmt_fragment-IfElse, stmt_fragment-Change, stmt_fragment-Atomic, stmt_fragment-Loop}
 
 -- ---- expressions
 
@@ -125,7 +125,7 @@ neg p a = record {
 pub record Does : Type 0 where
   pub raw : RawStmt
   pub walk : Walk
-  pub is : stmt_piece raw ≡ walk
+  pub is : stmt_fragment raw ≡ walk
 
 abbrev pub raw_stmts : List Does → List RawStmt
 raw_stmts ss = map (λ s. s.raw) ss
@@ -133,7 +133,7 @@ raw_stmts ss = map (λ s. s.raw) ss
 abbrev pub walks : List Does → List Walk
 walks ss = map (λ s. s.walk) ss
 
-pub walks_are : (ss : List Does) → map stmt_piece (raw_stmts ss) ≡ walks ss
+pub walks_are : (ss : List Does) → map stmt_fragment (raw_stmts ss) ≡ walks ss
 walks_are [] = refl
 walks_are (s ∷ ss) = λ i. s.is i ∷ walks_are ss i
 
@@ -142,7 +142,7 @@ abbrev pub set : ℕ → KnownTarget → RawOp → Known → Does
 set p t o e = record {
   raw = statement p (what.Change (change.Set t.raw o e.raw));
   walk = change_by (λ s. operated s p o) t.reads e.reads;
-  is = stmt_piece-Change p (change.Set t.raw o e.raw) ∙ (λ i. change_by (λ s. operated s p o) (t.is i) (e.is i));
+  is = stmt_fragment-Change p (change.Set t.raw o e.raw) ∙ (λ i. change_by (λ s. operated s p o) (t.is i) (e.is i));
 }
 
 -- `t++;` and `--t;`
@@ -150,22 +150,22 @@ abbrev pub up : ℕ → KnownTarget → Does
 up p t = record {
   raw = statement p (what.Change (change.Up t.raw));
   walk = change_by_one (λ s. increased s p false) t.reads;
-  is = stmt_piece-Change p (change.Up t.raw) ∙ (λ i. change_by_one (λ s. increased s p false) (t.is i));
+  is = stmt_fragment-Change p (change.Up t.raw) ∙ (λ i. change_by_one (λ s. increased s p false) (t.is i));
 }
 
 abbrev pub down_before : ℕ → KnownTarget → Does
 down_before p t = record {
   raw = statement p (what.Change (change.DownBefore t.raw));
   walk = change_by_one (λ s. combined s p binary.Sub) t.reads;
-  is = stmt_piece-Change p (change.DownBefore t.raw) ∙ (λ i. change_by_one (λ s. combined s p binary.Sub) (t.is i));
+  is = stmt_fragment-Change p (change.DownBefore t.raw) ∙ (λ i. change_by_one (λ s. combined s p binary.Sub) (t.is i));
 }
 
 -- `t += e;` under an atomic pragma
 abbrev pub atomic : ℕ → KnownTarget → Known → Does
 atomic p t e = record {
   raw = statement p (what.Atomic t.raw e.raw);
-  walk = atomic_piece p t.reads e.reads;
-  is = stmt_piece-Atomic p t.raw e.raw ∙ (λ i. atomic_piece p (t.is i) (e.is i));
+  walk = atomic_fragment p t.reads e.reads;
+  is = stmt_fragment-Atomic p t.raw e.raw ∙ (λ i. atomic_fragment p (t.is i) (e.is i));
 }
 
 -- a name with its initialiser
@@ -181,42 +181,42 @@ abbrev pub with_value : ℕ → String → Known → KnownLocal
 with_value p n e = record { raw = record { name = at p n; init = Some e.raw }; reads = Some e.reads; is = λ i. Some (e.is i) }
 
 abbrev pub local_walks : Kind → List KnownLocal → List Walk
-local_walks k ls = map (λ l. local_piece k l.raw.name l.reads) ls
+local_walks k ls = map (λ l. local_fragment k l.raw.name l.reads) ls
 
 pub local_walks_are : (k : Kind) (ls : List KnownLocal) → map (declarator k) (map (λ l. l.raw) ls) ≡ local_walks k ls
 local_walks_are k [] = refl
-local_walks_are k (l ∷ ls) = λ i. local_piece k l.raw.name (l.is i) ∷ local_walks_are k ls i
+local_walks_are k (l ∷ ls) = λ i. local_fragment k l.raw.name (l.is i) ∷ local_walks_are k ls i
 
 -- `int x, y = e;`
 abbrev pub declare : ℕ → Kind → List KnownLocal → Does
 declare p k ls = record {
   raw = statement p (what.Declare k (map (λ l. l.raw) ls));
   walk = in_order (local_walks k ls);
-  is = stmt_piece-Declare p k (map (λ l. l.raw) ls) ∙ (λ i. in_order (local_walks_are k ls i));
+  is = stmt_fragment-Declare p k (map (λ l. l.raw) ls) ∙ (λ i. in_order (local_walks_are k ls i));
 }
 
 abbrev pub block : ℕ → List Does → Does
 block p ss = record {
   raw = statement p (what.Block (raw_stmts ss));
-  walk = block_piece (walks ss);
-  is = stmt_piece-Block p (raw_stmts ss) ∙ (λ i. block_piece (walks_are ss i));
+  walk = block_fragment (walks ss);
+  is = stmt_fragment-Block p (raw_stmts ss) ∙ (λ i. block_fragment (walks_are ss i));
 }
 
 abbrev pub empty : ℕ → Does
-empty p = record { raw = statement p what.Empty; walk = empty_piece; is = stmt_piece-Empty p }
+empty p = record { raw = statement p what.Empty; walk = empty_fragment; is = stmt_fragment-Empty p }
 
 abbrev pub if_else : ℕ → Known → Does → Does → Does
 if_else p e s t = record {
   raw = statement p (what.If e.raw s.raw (Some t.raw));
-  walk = if_piece p e.reads s.walk (Some t.walk);
-  is = stmt_piece-IfElse p e.raw s.raw t.raw ∙ (λ i. if_piece p (e.is i) (s.is i) (Some (t.is i)));
+  walk = if_fragment p e.reads s.walk (Some t.walk);
+  is = stmt_fragment-IfElse p e.raw s.raw t.raw ∙ (λ i. if_fragment p (e.is i) (s.is i) (Some (t.is i)));
 }
 
 abbrev pub if_only : ℕ → Known → Does → Does
 if_only p e s = record {
   raw = statement p (what.If e.raw s.raw None);
-  walk = if_piece p e.reads s.walk None;
-  is = stmt_piece-If p e.raw s.raw ∙ (λ i. if_piece p (e.is i) (s.is i) None);
+  walk = if_fragment p e.reads s.walk None;
+  is = stmt_fragment-If p e.raw s.raw ∙ (λ i. if_fragment p (e.is i) (s.is i) None);
 }
 
 -- ---- loops
@@ -295,7 +295,7 @@ loop p l = record {
     step = l.step.raw;
     body = l.body.raw;
   })));
-  walk = loop_piece (record {
+  walk = loop_fragment (record {
     line = None;
     parallel = l.parallel;
     typed = l.typed;
@@ -309,7 +309,7 @@ loop p l = record {
     step = l.step.reads;
     body = l.body.walk;
   }) p;
-  is = stmt_piece-Loop p (record {
+  is = stmt_fragment-Loop p (record {
     line = None;
     parallel = l.parallel;
     typed = l.typed;
@@ -320,7 +320,7 @@ loop p l = record {
     limit = l.limit.raw;
     step = l.step.raw;
     body = l.body.raw;
-  }) ∙ (λ i. loop_piece (record {
+  }) ∙ (λ i. loop_fragment (record {
     line = None;
     parallel = l.parallel;
     typed = l.typed;

@@ -13,7 +13,7 @@ use Rattle.species_ast.specs.declared.tree.Stmt.TheOpen.{Loop-F}
 use Rattle.species_ast.specs.Scope.Hulls.{Range, fixed_range, range_between, passes_hull}
 use Rattle.species_ast.specs.Scope.Forms.{constant_form, iterator_form}
 use Rattle.species_ast.specs.Scope.Magnitudes.{passes_bound}
-use Rattle.species_ast.proofs.ScopeParts.{int, folded}
+use Rattle.species_examples.proofs.ScopeParts.{int, folded}
 
 -- from a constant to a constant: `for (i = 1; i <= 9; i += 3)` ends at 7, and `for (i = 9; i >= 1; i -= 5)` at 4
 up_by_three : fixed_range (pos 3) (pos 1) (pos 9) ≡ record { low = pos 1; high = pos 7; step = pos 3; start = Some (pos 1); fixed = true }

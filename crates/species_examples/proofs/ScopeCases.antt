@@ -14,7 +14,7 @@ use Rattle.species_ast.specs.declared.tree.Loop.{roll-Loop}
 use Rattle.species_ast.specs.declared.tree.Unit.{Unit}
 use Rattle.species_ast.specs.Scope.Refusals.{Limit, Refusal, Finding}
 use Rattle.species_ast.specs.Scope.Limits.{has_lawful_sizes}
-use Rattle.species_ast.proofs.ScopeParts.{Known, at, num, var, bin, neg, Does, plain, declare, empty, KnownStep, plus_plus, plus_plus_before, minus_minus, minus_minus_before, add_by, sub_by, set_add, set_sub, loop, count_up, old_loop, marked, KnownProgram, program, answers, answer, becomes, become, refused, k_at_5, k_at_15, a4, int, unit, folded}
+use Rattle.species_examples.proofs.ScopeParts.{Known, at, num, var, bin, neg, Does, plain, declare, empty, KnownStep, plus_plus, plus_plus_before, minus_minus, minus_minus_before, add_by, sub_by, set_add, set_sub, loop, count_up, old_loop, marked, KnownProgram, program, answers, answer, becomes, become, refused, k_at_5, k_at_15, a4, int, unit, folded}
 
 -- ---- other names in a header
 

@@ -1,6 +1,6 @@
-//! Calls that succeed with ample memory.
+//! Copies of a marked loop, and what is left of one that is stripped.
 
-use crate::{
+use species_ast::{
     Array, Binary, Dims, Expr, Includes, Kind, LineText, LocalInfo, Loop, Mark, Name, OutOfMemory,
     Schedule, Stmt, Test, Unit, Value, copy, strip,
 };

@@ -15,7 +15,7 @@ use Rattle.species_ast.specs.declared.tree.Array.{Array}
 use Rattle.species_ast.specs.declared.raw.RawOp.TheVariants as op
 use Rattle.species_ast.specs.Scope.Refusals.{Limit, Refusal}
 use Rattle.species_ast.specs.Scope.WellMade.{Around, list_holds, made}
-use Rattle.species_ast.proofs.ScopeParts.{at, num, spot, elem, var, bin, set, up, down_before, atomic, plain, with_value, declare, block, empty, if_else, KnownStep, plus_plus, minus_minus, add_by, loop, count_up, old_loop, marked, KnownProgram, program, answers, answer, becomes, become, refused, k_at_5, k_at_15, a4, int, unit, int_local, array_a, loop_to_4, folded}
+use Rattle.species_examples.proofs.ScopeParts.{at, num, spot, elem, var, bin, set, up, down_before, atomic, plain, with_value, declare, block, empty, if_else, KnownStep, plus_plus, minus_minus, add_by, loop, count_up, old_loop, marked, KnownProgram, program, answers, answer, becomes, become, refused, k_at_5, k_at_15, a4, int, unit, int_local, array_a, loop_to_4, folded}
 
 -- ---- names
 
