@@ -5,6 +5,7 @@ use Rattle.std.specs.List.{flat_map}
 use Rattle.std.proofs.lemmas.Grind.{flat_map-append}
 use Rattle.std.proofs.lemmas.List.{append-nil}
 use Rattle.std.proofs.Math.Seq.{take-suc}
+use Rattle.species_ast.specs.Signs.{binary_level, binary_sign, unary_sign}
 use Rattle.species_ast.specs.declared.tree.Binary.{Binary}
 use Rattle.species_ast.specs.declared.tree.Expr.{Expr, para-roll-Expr}
 use Rattle.species_ast.specs.declared.tree.Expr.TheOpen.{Expr-F}
@@ -15,7 +16,7 @@ use Rattle.species_ast.specs.declared.tree.Unit.{Unit}
 use Rattle.species_ast.specs.declared.tree.Value.{Value}
 use Rattle.species_ast.specs.declared.tree.Value.TheVariants as value
 use Rattle.species_print.specs.Pieces.{Piece, text_of, piece_text, spaced}
-use Rattle.species_print.specs.Expressions.{Operand, expr_step, expr_pieces, array_name, local_name, iter_name, kind_words, unary_sign, binary_sign, binary_level, at_least, behind_unary, bracketed, subscript, literal_pieces}
+use Rattle.species_print.specs.Expressions.{Operand, expr_step, expr_pieces, array_name, local_name, iter_name, kind_words, at_least, behind_unary, bracketed, subscript, literal_pieces}
 use Rattle.species_print.specs.Texts.{subscript_text}
 
 -- ---- pieces

@@ -9,9 +9,9 @@ use Rattle.species_ast.specs.declared.tree.Stmt.{Stmt}
 use Rattle.species_ast.specs.declared.tree.Stmt.TheVariants as stmt
 use Rattle.species_ast.specs.declared.tree.Unit.{Unit}
 use Rattle.species_ast.proofs.Folds.{fold_stmt-Assign, fold_stmt-AddTo, fold_stmt-Declare, fold_stmt-SetLocal, fold_stmt-If, fold_stmt-For, fold_stmt-Block, fold_loop, fold_loop-out}
-use Rattle.species_print.specs.Pieces.{Piece, text_of, piece_text, line, spaced, name, punctuator}
+use Rattle.species_print.specs.Pieces.{Piece, text_of, line, spaced, name, punctuator}
 use Rattle.species_print.specs.Expressions.{expr_pieces, array_name, local_name, kind_words}
-use Rattle.species_print.specs.Statements.{Layout, all_of, deeper, element, assignment, declaration, initializer, local_kind, if_head, for_head, else_part, atomic_line, close, species_line, stmt_step, loop_layer, stmt_layout, stmt_text, loop_text, without_line, head_at, head_text}
+use Rattle.species_print.specs.Statements.{Layout, all_of, deeper, element, assignment, declaration, initialiser, local_kind, if_head, for_head, else_part, atomic_line, close, species_line, stmt_step, loop_layer, stmt_layout, stmt_text, loop_text, without_line, head_at, head_text}
 use Rattle.species_print.specs.Texts.{expr_text, element_text, assignment_text, declaration_text, if_head_text, for_head_text, stmts_text, else_text, species_text, pragma_text}
 use Rattle.species_print.proofs.ExprTexts.{text_of-append, text-subscripts}
 
@@ -45,12 +45,12 @@ text-declaration u iters ind n init =
     text-line ind (declaration u iters n init) ∙
     ap (λ t. ind ++ (t ++ codes "\n")) (text_of-append (kind_words (local_kind u n)) _) ∙
     ap (λ t. ind ++ ((text_of (kind_words (local_kind u n)) ++ (codes " " ++ (local_name u n ++ t))) ++ codes "\n"))
-    (text_of-append (initializer u iters init) _) ∙
+    (text_of-append (initialiser u iters init) _) ∙
     simp append_assoc refl
 
-pub text-initializer : (u : Unit) (iters : List (List ℕ)) (e : Expr) →
-    text_of (initializer u iters (Some e)) ≡ codes " = " ++ expr_text u iters e
-text-initializer u iters e = text_of-append (spaced (codes "=")) (expr_pieces u iters e)
+pub text-initialiser : (u : Unit) (iters : List (List ℕ)) (e : Expr) →
+    text_of (initialiser u iters (Some e)) ≡ codes " = " ++ expr_text u iters e
+text-initialiser u iters e = text_of-append (spaced (codes "=")) (expr_pieces u iters e)
 
 pub text-if_head : (u : Unit) (iters : List (List ℕ)) (ind : List ℕ) (test : Expr) →
     text_of (line ind (if_head u iters test)) ≡ if_head_text u iters ind test

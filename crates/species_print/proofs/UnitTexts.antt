@@ -11,7 +11,7 @@ use Rattle.species_ast.specs.declared.tree.Stmt.TheOpen.{Stmt-F, Loop-F}
 use Rattle.species_ast.specs.declared.tree.Unit.{Unit}
 use Rattle.species_ast.proofs.Folds.{fold_stmt-Assign, fold_stmt-AddTo, fold_stmt-Declare, fold_stmt-SetLocal, fold_stmt-If, fold_stmt-For, fold_stmt-Block, fold_loop}
 use Rattle.species_ast.proofs.Induction.{Each, each_all, StmtCases, stmt_ind}
-use Rattle.species_print.specs.Pieces.{Piece, text_of, piece_text, line, punctuator, keyword, name, space}
+use Rattle.species_print.specs.Pieces.{Piece, text_of, line, punctuator, keyword, name, space}
 use Rattle.species_print.specs.Expressions.{kind_words}
 use Rattle.species_print.specs.Statements.{Layout, all_of, deeper, if_head, for_head, else_part, close, species_line, parallel_line, stmt_step, loop_layer, stmt_layout}
 use Rattle.species_print.specs.Units.{include_line, size, array_line, function_line, front, canonical_text}

@@ -1,8 +1,7 @@
 -- The canonical text of expressions: brackets stand only where C17 6.5 needs them.
 use Rattle.std.specs.Prelude.{ℕ, suc, ◌+◌, ℤ, pos, negsuc, Bool, true, false, ◌&&◌, ◌||◌, nat_lt, int_lt, if◌then◌else◌, List, [], ◌∷◌, ◌++◌, map, codes, decimal, option_map, unwrap_or, slice_get}
 use Rattle.std.specs.List.{flat_map}
-use Rattle.species_ast.specs.declared.tree.Binary.{Binary}
-use Rattle.species_ast.specs.declared.tree.Binary.TheVariants as binary
+use Rattle.species_ast.specs.Signs.{conditional_level, or_level, and_level, cast_level, primary_level, binary_level, binary_sign, and_sign, or_sign, unary_sign}
 use Rattle.species_ast.specs.declared.tree.Expr.{Expr, out-Expr, para-Expr}
 use Rattle.species_ast.specs.declared.tree.Expr.TheOpen.{Expr-F}
 use Rattle.species_ast.specs.declared.tree.Kind.{Kind}
@@ -35,51 +34,9 @@ kind_words of_kind.UnsignedLong = keyword "unsigned" ∷ space ∷ keyword "long
 
 -- ---- operators
 
-abbrev pub binary_sign : Binary → List ℕ
-binary_sign binary.Mul = codes "*"
-binary_sign binary.Div = codes "/"
-binary_sign binary.Rem = codes "%"
-binary_sign binary.Add = codes "+"
-binary_sign binary.Sub = codes "-"
-binary_sign binary.Shl = codes "<<"
-binary_sign binary.Shr = codes ">>"
-binary_sign binary.Lt = codes "<"
-binary_sign binary.Le = codes "<="
-binary_sign binary.Gt = codes ">"
-binary_sign binary.Ge = codes ">="
-binary_sign binary.Eq = codes "=="
-binary_sign binary.Ne = codes "!="
-binary_sign binary.BitAnd = codes "&"
-binary_sign binary.BitXor = codes "^"
-binary_sign binary.BitOr = codes "|"
-
-abbrev pub unary_sign : Unary → List ℕ
-unary_sign unary.Neg = codes "-"
-unary_sign unary.Not = codes "~"
-unary_sign unary.LogNot = codes "!"
-
 abbrev pub is_minus : Unary → Bool
 is_minus unary.Neg = true
 is_minus _ = false
-
--- the levels of C17 6.5.5 to 6.5.14; an operator of a higher level binds tighter
-abbrev pub binary_level : Binary → ℕ
-binary_level binary.Mul = 10
-binary_level binary.Div = 10
-binary_level binary.Rem = 10
-binary_level binary.Add = 9
-binary_level binary.Sub = 9
-binary_level binary.Shl = 8
-binary_level binary.Shr = 8
-binary_level binary.Lt = 7
-binary_level binary.Le = 7
-binary_level binary.Gt = 7
-binary_level binary.Ge = 7
-binary_level binary.Eq = 6
-binary_level binary.Ne = 6
-binary_level binary.BitAnd = 5
-binary_level binary.BitXor = 4
-binary_level binary.BitOr = 3
 
 -- ---- levels of expressions
 
@@ -91,14 +48,14 @@ is_negative (value.Long z) = int_lt z (pos 0)
 is_negative (value.UnsignedLong n) = false
 
 abbrev pub level_at : {X : Type 0} → Expr-F X → ℕ
-level_at (Expr-F.Literal v) = if is_negative v then 11 else 12
-level_at (Expr-F.Unary op a) = 11
-level_at (Expr-F.Cast k a) = 11
+level_at (Expr-F.Literal v) = if is_negative v then cast_level else primary_level
+level_at (Expr-F.Unary op a) = cast_level
+level_at (Expr-F.Cast k a) = cast_level
 level_at (Expr-F.Binary op a b) = binary_level op
-level_at (Expr-F.And a b) = 2
-level_at (Expr-F.Or a b) = 1
-level_at (Expr-F.Cond c a b) = 0
-level_at _ = 12
+level_at (Expr-F.And a b) = and_level
+level_at (Expr-F.Or a b) = or_level
+level_at (Expr-F.Cond c a b) = conditional_level
+level_at _ = primary_level
 
 -- how tight an expression binds, from 0 for `? :` to 12 for a name
 abbrev pub level_of : Expr → ℕ
@@ -129,7 +86,7 @@ at_least level a = bracketed (nat_lt (level_of a.0) level) a.1
 
 -- behind a unary operator: `--` would be another operator, so a minus behind a minus stands in brackets too
 abbrev pub behind_unary : Unary → Operand → List Piece
-behind_unary op a = bracketed (nat_lt (level_of a.0) 11 || (is_minus op && is_negation a.0)) a.1
+behind_unary op a = bracketed (nat_lt (level_of a.0) cast_level || (is_minus op && is_negation a.0)) a.1
 
 abbrev pub subscript : List Piece → List Piece
 subscript ps = punctuator "[" ∷ (ps ++ punctuator "]" ∷ [])
@@ -153,10 +110,10 @@ expr_step u iters (Expr-F.Elem array subs) = name (array_name u array) ∷ flat_
 expr_step u iters (Expr-F.Unary op a) = Lexeme (unary_sign op) kind.Punct ∷ behind_unary op a
 expr_step u iters (Expr-F.Binary op a b) =
     at_least (binary_level op) a ++ (spaced (binary_sign op) ++ at_least (binary_level op + 1) b)
-expr_step u iters (Expr-F.And a b) = at_least 2 a ++ (spaced (codes "&&") ++ at_least 3 b)
-expr_step u iters (Expr-F.Or a b) = at_least 1 a ++ (spaced (codes "||") ++ at_least 2 b)
-expr_step u iters (Expr-F.Cond c a b) = at_least 1 c ++ (spaced (codes "?") ++ (a.1 ++ (spaced (codes ":") ++ b.1)))
-expr_step u iters (Expr-F.Cast k a) = punctuator "(" ∷ (kind_words k ++ punctuator ")" ∷ at_least 11 a)
+expr_step u iters (Expr-F.And a b) = at_least and_level a ++ (spaced and_sign ++ at_least (and_level + 1) b)
+expr_step u iters (Expr-F.Or a b) = at_least or_level a ++ (spaced or_sign ++ at_least (or_level + 1) b)
+expr_step u iters (Expr-F.Cond c a b) = at_least (conditional_level + 1) c ++ (spaced (codes "?") ++ (a.1 ++ (spaced (codes ":") ++ b.1)))
+expr_step u iters (Expr-F.Cast k a) = punctuator "(" ∷ (kind_words k ++ punctuator ")" ∷ at_least cast_level a)
 
 -- `iters` has the names of the loops around the expression, by level
 abbrev pub expr_pieces : Unit → List (List ℕ) → Expr → List Piece

@@ -1,6 +1,7 @@
 -- The canonical text of statements.
 use Rattle.std.specs.Prelude.{ℕ, zero, suc, ℤ, pos, negsuc, Bool, true, false, nat_lt, if◌then◌else◌, List, [], ◌∷◌, ◌++◌, map, codes, decimal, Option, Some, None, option_map, unwrap_or, slice_get}
 use Rattle.std.specs.List.{flat_map}
+use Rattle.species_ast.specs.Signs.{test_sign}
 use Rattle.species_ast.specs.Line.{Line}
 use Rattle.species_ast.specs.declared.tree.Expr.{Expr}
 use Rattle.species_ast.specs.declared.tree.Kind.{Kind}
@@ -12,8 +13,6 @@ use Rattle.species_ast.specs.declared.tree.Schedule.{Schedule}
 use Rattle.species_ast.specs.declared.tree.Schedule.TheVariants as schedule
 use Rattle.species_ast.specs.declared.tree.Stmt.{Stmt, out-Stmt, fold-Stmt}
 use Rattle.species_ast.specs.declared.tree.Stmt.TheOpen.{Stmt-F, Loop-F}
-use Rattle.species_ast.specs.declared.tree.Test.{Test}
-use Rattle.species_ast.specs.declared.tree.Test.TheVariants as test
 use Rattle.species_ast.specs.declared.tree.Unit.{Unit}
 use Rattle.species_ast.specs.declared.token.TokenKind.TheVariants as kind
 use Rattle.species_print.specs.Pieces.{Piece, Lexeme, punctuator, keyword, name, number, space, spaced, line, text_of}
@@ -49,13 +48,13 @@ assignment u iters target sign value = target ++ (spaced sign ++ (expr_pieces u 
 abbrev pub local_kind : Unit → ℕ → Kind
 local_kind u n = unwrap_or (option_map (λ l. l.kind) (slice_get u.locals n)) of_kind.Int
 
-abbrev pub initializer : Unit → List (List ℕ) → Option Expr → List Piece
-initializer u iters None = []
-initializer u iters (Some e) = spaced (codes "=") ++ expr_pieces u iters e
+abbrev pub initialiser : Unit → List (List ℕ) → Option Expr → List Piece
+initialiser u iters None = []
+initialiser u iters (Some e) = spaced (codes "=") ++ expr_pieces u iters e
 
 abbrev pub declaration : Unit → List (List ℕ) → ℕ → Option Expr → List Piece
 declaration u iters n init =
-    kind_words (local_kind u n) ++ (space ∷ name (local_name u n) ∷ (initializer u iters init ++ punctuator ";" ∷ []))
+    kind_words (local_kind u n) ++ (space ∷ name (local_name u n) ∷ (initialiser u iters init ++ punctuator ";" ∷ []))
 
 -- ---- pragmas (OpenMP 4.5, 2.13.6 and 2.7.1)
 
@@ -87,12 +86,6 @@ parallel_line (mark.Parallel depth s) ind = line ind (Lexeme (parallel_text dept
 
 abbrev pub if_head : Unit → List (List ℕ) → Expr → List Piece
 if_head u iters test = keyword "if" ∷ space ∷ punctuator "(" ∷ (expr_pieces u iters test ++ (punctuator ")" ∷ space ∷ punctuator "{" ∷ []))
-
-abbrev pub test_sign : Test → List ℕ
-test_sign test.Lt = codes "<"
-test_sign test.Le = codes "<="
-test_sign test.Gt = codes ">"
-test_sign test.Ge = codes ">="
 
 -- `i++`, `i--`, `i += n` or `i -= n`
 abbrev pub step_pieces : List ℕ → ℤ → List Piece

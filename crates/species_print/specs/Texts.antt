@@ -1,6 +1,7 @@
 -- The texts of parts of statements, as they are appended.
 use Rattle.std.specs.Prelude.{ℕ, List, [], ◌∷◌, ◌++◌, codes, decimal, Option}
 use Rattle.std.specs.List.{flat_map}
+use Rattle.species_ast.specs.Signs.{test_sign}
 use Rattle.species_ast.specs.Line.{Line}
 use Rattle.species_ast.specs.declared.tree.Expr.{Expr}
 use Rattle.species_ast.specs.declared.tree.Loop.{Loop, out-Loop}
@@ -10,7 +11,7 @@ use Rattle.species_ast.specs.declared.tree.Test.{Test}
 use Rattle.species_ast.specs.declared.tree.Unit.{Unit}
 use Rattle.species_print.specs.Pieces.{text_of, spaced}
 use Rattle.species_print.specs.Expressions.{array_name, local_name, kind_words, expr_pieces}
-use Rattle.species_print.specs.Statements.{deeper, local_kind, initializer, species_line, test_sign, step_pieces, stmt_text}
+use Rattle.species_print.specs.Statements.{deeper, local_kind, initialiser, species_line, step_pieces, stmt_text}
 
 abbrev pub expr_text : Unit → List (List ℕ) → Expr → List ℕ
 expr_text u iters e = text_of (expr_pieces u iters e)
@@ -27,7 +28,7 @@ assignment_text u iters sign value = sign ++ (expr_text u iters value ++ codes "
 
 abbrev pub declaration_text : Unit → List (List ℕ) → ℕ → Option Expr → List ℕ
 declaration_text u iters n init =
-    text_of (kind_words (local_kind u n)) ++ (codes " " ++ (local_name u n ++ (text_of (initializer u iters init) ++ codes ";\n")))
+    text_of (kind_words (local_kind u n)) ++ (codes " " ++ (local_name u n ++ (text_of (initialiser u iters init) ++ codes ";\n")))
 
 abbrev pub if_head_text : Unit → List (List ℕ) → List ℕ → Expr → List ℕ
 if_head_text u iters ind test = ind ++ (codes "if (" ++ (expr_text u iters test ++ codes ") {\n"))

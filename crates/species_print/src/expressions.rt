@@ -1,29 +1,12 @@
+//! Expressions, with brackets where their levels need them.
 ghost use Rattle.std.specs.Prelude.{◌≡◌, ◌++◌, ◌<◌, pos, OnOk, nat_lt, int_lt};
 ghost use Rattle.std.specs.List.{flat_map};
 ghost use Rattle.species_print.specs.Pieces.{text_of};
-ghost use Rattle.species_print.specs.Expressions.{binary_level, is_minus, is_negative, level_of, is_negation, bracketed, at_least, behind_unary, expr_pieces};
+ghost use Rattle.species_print.specs.Expressions.{is_minus, is_negative, level_of, is_negation, bracketed, at_least, behind_unary, expr_pieces};
 ghost use Rattle.species_print.specs.Texts.{subscript_text};
 
-use crate::words::{
-    array_name, iter_name, kind_words, local_name, put, put_literal, spaced_binary, unary_sign,
-};
-use species_ast::{Binary, Expr, Name, OutOfMemory, Unary, Unit, Value};
-
-fn binary_level(op: Binary) -> u8
-    ensures value { result ≡ binary_level op }
-    ensures small { result < 20 }
-{
-    match op {
-        Binary::Mul | Binary::Div | Binary::Rem => 10,
-        Binary::Add | Binary::Sub => 9,
-        Binary::Shl | Binary::Shr => 8,
-        Binary::Lt | Binary::Le | Binary::Gt | Binary::Ge => 7,
-        Binary::Eq | Binary::Ne => 6,
-        Binary::BitAnd => 5,
-        Binary::BitXor => 4,
-        Binary::BitOr => 3,
-    }
-}
+use crate::words::{array_name, iter_name, kind_words, local_name, put, put_literal, put_spaced};
+use species_ast::{Expr, Name, OutOfMemory, Unary, Unit, Value};
 
 fn is_minus(op: Unary) -> bool
     ensures { result ≡ is_minus op }
@@ -57,7 +40,7 @@ fn level_of(expr: &Expr) -> u8
         Expr::Literal(value) => if is_negative(*value) { 11 } else { 12 },
         Expr::Iter(_) | Expr::Local(_) | Expr::Elem(_, _) => 12,
         Expr::Unary(_, _) | Expr::Cast(_, _) => 11,
-        Expr::Binary(op, _, _) => binary_level(*op),
+        Expr::Binary(op, _, _) => op.level(),
         Expr::And(_, _) => 2,
         Expr::Or(_, _) => 1,
         Expr::Cond(_, _, _) => 0,
@@ -103,14 +86,14 @@ pub(crate) fn print_expr(
             Ok(())
         }
         Expr::Unary(op, a) => {
-            put(unary_sign(*op), out)?;
+            put(op.sign(), out)?;
             print_behind_unary(unit, iters, *op, a.get(), out)?;
             Ok(())
         }
         Expr::Binary(op, a, b) => {
-            let level = binary_level(*op);
+            let level = op.level();
             print_operand(unit, iters, level, a.get(), out)?;
-            put(spaced_binary(*op), out)?;
+            put_spaced(op.sign(), out)?;
             print_operand(unit, iters, level + 1, b.get(), out)?;
             Ok(())
         }

@@ -1,12 +1,13 @@
+//! Statements and loops, a line each.
 ghost use Rattle.std.specs.Prelude.{◌≡◌, ◌++◌, [], ◌∷◌, OnOk, OnErr, IfOk, List, length, codes};
 ghost use Rattle.std.specs.List.{flat_map};
 ghost use Rattle.species_print.specs.Pieces.{text_of};
 ghost use Rattle.species_print.specs.Named.{IsNamed, IsNamedLoop, HasHead};
-ghost use Rattle.species_print.specs.Statements.{indentation, deeper, stmt_text, loop_text, head_text, without_line, initializer, atomic_line, step_pieces};
+ghost use Rattle.species_print.specs.Statements.{indentation, deeper, stmt_text, loop_text, head_text, without_line, initialiser, atomic_line, step_pieces};
 ghost use Rattle.species_print.specs.Texts.{element_text, assignment_text, declaration_text, for_start_text, for_test_text, for_end_text, for_head_text, if_head_text, stmts_text, else_text, pragma_text, species_text};
 
 use crate::expressions::{print_expr, print_subs};
-use crate::words::{array_name, kind_words, local_kind, local_name, put, put_number, spaced_test};
+use crate::words::{array_name, kind_words, local_kind, local_name, put, put_number, put_spaced};
 use species_ast::{Expr, LineText, Loop, Name, OutOfMemory, Stmt, Test, Unit};
 use sqlite_items::Items;
 use std::alloc::Global;
@@ -193,7 +194,7 @@ fn print_for_test(
     ensures { OnOk result (out.new.items ≡ out.old.items ++ for_test_text unit.now iters.now iter.now test limit.now) }
 {
     put(iter, out)?;
-    put(spaced_test(test), out)?;
+    put_spaced(test.sign(), out)?;
     print_expr(unit, iters, limit, out)?;
     put(b"; ", out)?;
     Ok(())
@@ -267,18 +268,18 @@ fn print_declaration(
     put(kind_words(local_kind(unit, local)), out)?;
     put(b" ", out)?;
     put(local_name(unit, local), out)?;
-    print_initializer(unit, iters, init, out)?;
+    print_initialiser(unit, iters, init, out)?;
     put(b";\n", out)?;
     Ok(())
 }
 
-fn print_initializer(
+fn print_initialiser(
     unit: &Unit,
     iters: &[Name],
     init: &Option<Expr>,
     out: &mut Vec<u8>,
 ) -> Result<(), OutOfMemory>
-    ensures { OnOk result (out.new.items ≡ out.old.items ++ text_of (initializer unit.now iters.now init.now)) }
+    ensures { OnOk result (out.new.items ≡ out.old.items ++ text_of (initialiser unit.now iters.now init.now)) }
 {
     match init {
         None => Ok(()),

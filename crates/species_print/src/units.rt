@@ -1,3 +1,4 @@
+//! Whole units, and what stands before the body.
 ghost use Rattle.std.specs.Prelude.{◌≡◌, ◌++◌, OnOk, OnErr, IfOk};
 ghost use Rattle.std.specs.List.{flat_map};
 ghost use Rattle.species_ast.specs.Marks.{IsUnmarked};

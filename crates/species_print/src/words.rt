@@ -2,11 +2,11 @@
 ghost use Rattle.std.specs.Prelude.{◌≡◌, ◌++◌, [], OnOk, OnErr, decimal, codes, slice_get, unwrap_or, option_map};
 ghost use Rattle.std.specs.Fmt.{signed_decimal};
 ghost use Rattle.species_print.specs.Pieces.{text_of, spaced};
-ghost use Rattle.species_print.specs.Expressions.{array_name, local_name, iter_name, kind_words, literal_pieces, binary_sign, unary_sign};
-ghost use Rattle.species_print.specs.Statements.{local_kind, test_sign};
+ghost use Rattle.species_print.specs.Expressions.{array_name, local_name, iter_name, kind_words, literal_pieces};
+ghost use Rattle.species_print.specs.Statements.{local_kind};
 
 use itoa::{Buffer, Integer};
-use species_ast::{Binary, Kind, Name, OutOfMemory, Test, Unary, Unit, Value};
+use species_ast::{Kind, Name, OutOfMemory, Unit, Value};
 
 pub(crate) fn put(text: &[u8], out: &mut Vec<u8>) -> Result<(), OutOfMemory>
     ensures ok { OnOk result (out.new.items ≡ out.old.items ++ text.now) }
@@ -108,48 +108,12 @@ pub(crate) fn kind_words(kind: Kind) -> &'static [u8]
     }
 }
 
-/// The operator with a space on each side.
-pub(crate) fn spaced_binary(op: Binary) -> &'static [u8]
-    ensures { result.now ≡ text_of (spaced (binary_sign op)) }
+/// An operator with a space on each side.
+pub(crate) fn put_spaced(sign: &[u8], out: &mut Vec<u8>) -> Result<(), OutOfMemory>
+    ensures { OnOk result (out.new.items ≡ out.old.items ++ text_of (spaced sign.now)) }
 {
-    match op {
-        Binary::Mul => b" * ",
-        Binary::Div => b" / ",
-        Binary::Rem => b" % ",
-        Binary::Add => b" + ",
-        Binary::Sub => b" - ",
-        Binary::Shl => b" << ",
-        Binary::Shr => b" >> ",
-        Binary::Lt => b" < ",
-        Binary::Le => b" <= ",
-        Binary::Gt => b" > ",
-        Binary::Ge => b" >= ",
-        Binary::Eq => b" == ",
-        Binary::Ne => b" != ",
-        Binary::BitAnd => b" & ",
-        Binary::BitXor => b" ^ ",
-        Binary::BitOr => b" | ",
-    }
-}
-
-pub(crate) fn unary_sign(op: Unary) -> &'static [u8]
-    ensures { result.now ≡ unary_sign op }
-{
-    match op {
-        Unary::Neg => b"-",
-        Unary::Not => b"~",
-        Unary::LogNot => b"!",
-    }
-}
-
-/// The comparison with a space on each side.
-pub(crate) fn spaced_test(test: Test) -> &'static [u8]
-    ensures { result.now ≡ text_of (spaced (test_sign test)) }
-{
-    match test {
-        Test::Lt => b" < ",
-        Test::Le => b" <= ",
-        Test::Gt => b" > ",
-        Test::Ge => b" >= ",
-    }
+    put(b" ", out)?;
+    put(sign, out)?;
+    put(b" ", out)?;
+    Ok(())
 }

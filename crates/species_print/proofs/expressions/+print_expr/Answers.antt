@@ -1,8 +1,9 @@
 use Rattle.std.proofs.Common.{rules, ◌∙◌, ◌+◌, ap, append_assoc, codes, take, ℕ, List}
 use Rattle.std.specs.List.{flat_map}
+use Rattle.species_ast.specs.Signs.{binary_level, binary_sign}
 use Rattle.species_ast.specs.declared.tree.Expr.{Expr}
 use Rattle.species_print.specs.Pieces.{text_of, spaced}
-use Rattle.species_print.specs.Expressions.{at_least, binary_level, binary_sign, expr_pieces}
+use Rattle.species_print.specs.Expressions.{at_least, expr_pieces}
 use Rattle.species_print.specs.Texts.{expr_text, subscript_text}
 use Rattle.species_print.proofs.ExprTexts.{flat_map-next, regroup3, regroup5, text-Literal, text-Iter, text-Local, text-Elem, text-Unary, text-Binary, text-And, text-Or, text-Cond, text-Cast}
 use Rattle.species_print.proofs.expressions.+print_expr.Goals as goal
@@ -31,12 +32,12 @@ pub print_expr-returns-in_ok-print_operand-in-Binary-2 : goal.print_expr-returns
 print_expr-returns-in_ok-print_operand-in-Binary-2 t c =
     rw (
       c.in_ok-print_operand-in-Binary-2.ensures,
-      c.in_ok-put-in-Binary.ensures.ok,
+      c.in_ok-put_spaced-in-Binary.ensures,
       c.in_ok-print_operand-in-Binary.ensures,
       c.get-in-Binary.ensures,
       c.get-in-Binary-2.ensures,
-      c.spaced_binary.ensures,
-      c.binary_level-level.ensures.value,
+      c.sign-in-Binary.ensures,
+      c.level-level.ensures.value,
       ap (expr_text c.args.unit.now c.args.iters.now) c.in-Binary.is ∙ text-Binary c.args.unit.now c.args.iters.now c.in-Binary.op c.in-Binary.a c.in-Binary.b,
     )
     (regroup3 c.args.out.now.items
