@@ -1,0 +1,4 @@
+mod ScanLemmas
+mod CutLemmas
+mod LineLemmas
+mod SpeciesLemmas
