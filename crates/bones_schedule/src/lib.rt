@@ -3,6 +3,7 @@
 
 ghost use Rattle.std.specs.Prelude.{◌≡◌, ◌+◌, ◌≤◌, ℕ, length, Ok, Err, IfOk};
 ghost use Rattle.std.specs.List.{prefix_len};
+ghost use Rattle.species_ast.specs.Limits.{most_bytes};
 ghost use Rattle.bones_schedule.specs.Words.{is_solid, words_at};
 ghost use Rattle.bones_schedule.specs.Schedule.{numbers_of};
 
@@ -41,7 +42,7 @@ impl<T: Drop> From<AllocFailed<T>> for ScheduleRefusal {
 
 /// The numbers of a schedule, whose text stands at the place `base` of the input.
 pub fn read_schedule(alloc: Global, text: &[u8], base: u32) -> Result<Vec<u32>, ScheduleRefusal>
-    requires { base + length text.now ≤ 4194304 }
+    requires { base + length text.now ≤ most_bytes }
     ensures numbers { IfOk result (λ v. numbers_of (words_at base text.now) ≡ Ok v.items) }
     ensures syntax { (place : ℕ) → result ≡ Err (ScheduleRefusal.Syntax place) → numbers_of (words_at base text.now) ≡ Err place }
 {

@@ -2,8 +2,10 @@
 -- each status.
 use Rattle.std.specs.Prelude.{◌≡◌, ◌⊎◌, ℕ, ◌≤◌, ◌<◌, List, [], ◌∷◌, Option, length, codes, string_bytes, String}
 use Rattle.std.specs.declared.alloc.Global.{Global}
+use Rattle.species_ast.specs.Limits.{most_bytes}
 use Rattle.species_io.specs.Told.{then_bytes, TookPart}
 use Rattle.species_reference.specs.OneLoop.{OneLoop, unit_of, loop_of}
+use Rattle.species_cli.specs.Statuses.{status_refused, status_usage, status_read_fault}
 use Rattle.species_cli.specs.OneLoopText.{IsOneLoopText}
 use Rattle.species_cli.specs.Table.{table_of, IsTrueTable}
 
@@ -11,10 +13,6 @@ use Rattle.species_cli.specs.Table.{table_of, IsTrueTable}
 abbrev pub IsArcs : List (String Global) → Type 0
 IsArcs words = (program : String Global) × (command : String Global)
     × (words ≡ program ∷ command ∷ []) × (string_bytes command ≡ codes "arcs")
-
--- the most bytes of an input
-abbrev pub most_input : ℕ
-most_input = 4194304
 
 -- the bytes are the text of no one-loop program
 abbrev pub IsNoOneLoop : List ℕ → Type 0
@@ -37,7 +35,7 @@ not_built_line = codes "refused 19 NotBuilt at 0\n"
 pub record IsAnswered (bytes : List ℕ) (old new : Option (List ℕ)) : Type 0 where
   pub program : OneLoop
   pub is_read : IsOneLoopText bytes program
-  pub short : length bytes ≤ most_input
+  pub short : length bytes ≤ most_bytes
   pub written : new ≡ then_bytes old (table_of (unit_of program))
   pub is_true : IsTrueTable (loop_of program)
 
@@ -45,10 +43,10 @@ pub record IsAnswered (bytes : List ℕ) (old new : Option (List ℕ)) : Type 0 
 -- count of faults rose. Where it did, 4 may stand in place of 0 and 1; the other cases exclude each
 -- other.
 pub data HasLine (words : List (String Global)) (rose : Type 0) (bytes : List ℕ) : ℕ → List ℕ → Type 0 where
-  usage : (IsArcs words → ⊥) → HasLine words rose bytes 2 usage_line
-  read_fault : IsArcs words → rose → HasLine words rose bytes 4 read_fault_line
-  too_long : IsArcs words → most_input < length bytes → HasLine words rose bytes 1 too_long_line
-  not_built : IsArcs words → length bytes ≤ most_input → IsNoOneLoop bytes → HasLine words rose bytes 1 not_built_line
+  usage : (IsArcs words → ⊥) → HasLine words rose bytes status_usage usage_line
+  read_fault : IsArcs words → rose → HasLine words rose bytes status_read_fault read_fault_line
+  too_long : IsArcs words → most_bytes < length bytes → HasLine words rose bytes status_refused too_long_line
+  not_built : IsArcs words → length bytes ≤ most_bytes → IsNoOneLoop bytes → HasLine words rose bytes status_refused not_built_line
 
 -- the notes have exactly the line of this status more
 abbrev pub IsNoted : List (String Global) → Type 0 → List ℕ → ℕ → Option (List ℕ) → Option (List ℕ) → Type 0
@@ -63,7 +61,7 @@ IsPartlyNoted words rose bytes old new =
 -- the output has a part of the table of the program more
 abbrev pub IsPartlyAnswered : List (String Global) → List ℕ → Option (List ℕ) → Option (List ℕ) → Type 0
 IsPartlyAnswered words bytes old new =
-    (p : OneLoop) × IsArcs words × IsOneLoopText bytes p × (length bytes ≤ most_input) × TookPart old new (table_of (unit_of p))
+    (p : OneLoop) × IsArcs words × IsOneLoopText bytes p × (length bytes ≤ most_bytes) × TookPart old new (table_of (unit_of p))
 
 -- the notes have exactly one of the lines of a refused input more
 abbrev pub IsRefusedOn : Option (List ℕ) → Option (List ℕ) → Type 0

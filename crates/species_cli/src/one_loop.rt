@@ -6,6 +6,7 @@ mod names;
 mod words;
 
 ghost use Rattle.std.specs.Prelude.{◌≡◌, ◌≤◌, ℕ, length, IfOk, Err, Some};
+ghost use Rattle.species_ast.specs.Limits.{most_bytes};
 ghost use Rattle.species_reference.specs.OneLoop.{OneLoop, unit_of};
 ghost use Rattle.species_cli.specs.OneLoopText.{IsOneLoopText};
 ghost use Rattle.species_cli.specs.declared.one_loop.ReadRefusal.TheVariants.{NotBuilt};
@@ -77,8 +78,8 @@ fn read_rest(
     total: usize,
     bytes: &[u8],
 ) -> Result<Items<Stmt>, ReadRefusal>
-    requires few { length names.now ≤ 4194304 }
-    requires small { total ≤ 4194304 }
+    requires few { length names.now ≤ most_bytes }
+    requires small { total ≤ most_bytes }
     ensures { Gives (λ x. x) result (rest_at names.now iterator.now total bytes.now) }
 {
     let (body, rest) = read_body(alloc, names, iterator, total, bytes)?;
@@ -98,8 +99,8 @@ fn read_loop(
     total: usize,
     bytes: &[u8],
 ) -> Result<Stmt, ReadRefusal>
-    requires few { length arrays.now ≤ 4194304 }
-    requires small { total ≤ 4194304 }
+    requires few { length arrays.now ≤ most_bytes }
+    requires small { total ≤ most_bytes }
     ensures { Gives (λ x. x) result (loop_at arrays.now function.now total bytes.now) }
 {
     let place = total.saturating_sub(bytes.len()) as u32 + 4;
@@ -126,7 +127,7 @@ fn read_loop(
 /// The syntax tree of these bytes, where reading gives one.
 #[tactic(auto, unfolding(crate::specs::OneLoopReading::unit_at))]
 fn read_unit(alloc: Global, bytes: &[u8]) -> Result<Unit, ReadRefusal>
-    requires { length bytes.now ≤ 4194304 }
+    requires { length bytes.now ≤ most_bytes }
     ensures { Gives (λ x. x) result (unit_at bytes.now) }
 {
     let (arrays, names, rest) = read_arrays(alloc, bytes)?;
@@ -146,7 +147,7 @@ fn read_unit(alloc: Global, bytes: &[u8]) -> Result<Unit, ReadRefusal>
 /// The syntax tree of the one-loop program that these bytes are, with the places of its tokens.
 /// Any other text is refused as not built.
 pub(crate) fn read_one_loop(alloc: Global, bytes: &[u8]) -> Result<Unit, ReadRefusal>
-    requires { length bytes.now ≤ 4194304 }
+    requires { length bytes.now ≤ most_bytes }
     ensures sound { IfOk result (λ u. (p : OneLoop) × IsOneLoopText bytes.now p × (u ≡ unit_of p)) }
     ensures exact { (p : OneLoop) → IsOneLoopText bytes.now p → IfOk result (λ u. u ≡ unit_of p) }
     ensures only { result ≡ Err NotBuilt → (p : OneLoop) → IsOneLoopText bytes.now p → ⊥ }

@@ -1,17 +1,18 @@
 //! The call that the program makes.
 ghost use Rattle.std.specs.Prelude.{◌≡◌, ◌≢◌, ◌⊎◌, ◌≤◌, ◌<◌, ◌+◌, ℕ, List, Some, length};
+ghost use Rattle.species_ast.specs.Limits.{most_bytes};
 ghost use Rattle.species_io.specs.Told.{Rose, then_bytes, AtEnd, GaveAtMost, TookPart};
 ghost use Rattle.species_reference.specs.OneLoop.{OneLoop};
+ghost use Rattle.species_cli.specs.Statuses.{status_answered, status_refused, status_usage, status_undefined, status_read_fault, status_write_fault, status_memory};
 ghost use Rattle.species_cli.specs.OneLoopText.{IsOneLoopText};
-ghost use Rattle.species_cli.specs.Answer.{IsArcs, IsAnswered, IsNoted, IsPartlyAnswered, IsPartlyNoted, IsNoOneLoop, IsRefusedOn, most_input, usage_line, read_fault_line};
+ghost use Rattle.species_cli.specs.Answer.{IsArcs, IsAnswered, IsNoted, IsPartlyAnswered, IsPartlyNoted, IsNoOneLoop, IsRefusedOn, usage_line, read_fault_line};
 
 use crate::one_loop::{ReadRefusal, read_one_loop};
 use crate::table::table;
 use crate::words::read_words;
+use species_ast::MOST_BYTES;
 use species_io::{ReadAnswer, Sink, Source, read_whole, write_all};
 use std::alloc::Global;
-
-const MOST_INPUT: u32 = 4_194_304;
 
 const ANSWERED: u8 = 0;
 
@@ -27,11 +28,11 @@ const MEMORY: u8 = 6;
 
 /// The status, or that of a fault where its line could not be written.
 fn say<N: Sink>(notes: &mut N, line: &[u8], status: u8) -> u8
-    requires { status ≢ 5 }
-    ensures status { (result ≡ status) ⊎ (result ≡ 5) }
-    ensures whole { result ≢ 5 → N.taken notes.new ≡ then_bytes (N.taken notes.old) line.now }
-    ensures part { result ≡ 5 → TookPart (N.taken notes.old) (N.taken notes.new) line.now }
-    ensures fault { result ≡ 5 → Rose (N.faults notes.old) (N.faults notes.new) }
+    requires { status ≢ status_write_fault }
+    ensures status { (result ≡ status) ⊎ (result ≡ status_write_fault) }
+    ensures whole { result ≢ status_write_fault → N.taken notes.new ≡ then_bytes (N.taken notes.old) line.now }
+    ensures part { result ≡ status_write_fault → TookPart (N.taken notes.old) (N.taken notes.new) line.now }
+    ensures fault { result ≡ status_write_fault → Rose (N.faults notes.old) (N.faults notes.new) }
 {
     match write_all(notes, line) {
         Ok(()) => status,
@@ -58,49 +59,49 @@ pub fn species<S: Source, K: Sink, N: Sink>(
     output: &mut K,
     notes: &mut N,
 ) -> u8
-    ensures statuses { (result ≤ 6) × (result ≢ 3) }
+    ensures statuses { (result ≤ status_memory) × (result ≢ status_undefined) }
 
     // Status 0: the table of the program that was read, and it is true.
-    ensures answered { result ≡ 0 → (bytes : List ℕ) → S.left input.old ≡ Some bytes → IsAnswered bytes (K.taken output.old) (K.taken output.new) }
-    ensures lawful { result ≡ 0 → IsArcs words.now }
-    ensures read_all { result ≡ 0 → AtEnd (S.left input.new) }
+    ensures answered { result ≡ status_answered → (bytes : List ℕ) → S.left input.old ≡ Some bytes → IsAnswered bytes (K.taken output.old) (K.taken output.new) }
+    ensures lawful { result ≡ status_answered → IsArcs words.now }
+    ensures read_all { result ≡ status_answered → AtEnd (S.left input.new) }
 
     // Every other status: nothing on `output`, and its line on `notes`.
-    ensures untouched { result ≢ 0 → result ≢ 5 → K.taken output.new ≡ K.taken output.old }
-    ensures noted { result ≢ 0 → result ≢ 5 → result ≢ 6 → (bytes : List ℕ) → S.left input.old ≡ Some bytes
+    ensures untouched { result ≢ status_answered → result ≢ status_write_fault → K.taken output.new ≡ K.taken output.old }
+    ensures noted { result ≢ status_answered → result ≢ status_write_fault → result ≢ status_memory → (bytes : List ℕ) → S.left input.old ≡ Some bytes
         → IsNoted words.now (Rose (S.faults input.old) (S.faults input.new)) bytes result (N.taken notes.old) (N.taken notes.new) }
-    ensures silent { (result ≡ 0) ⊎ (result ≡ 6) → N.taken notes.new ≡ N.taken notes.old }
+    ensures silent { (result ≡ status_answered) ⊎ (result ≡ status_memory) → N.taken notes.new ≡ N.taken notes.old }
 
     // Status 1: one of two lines, and where the input is not too long it was read to its end.
-    ensures refused_line { result ≡ 1 → IsRefusedOn (N.taken notes.old) (N.taken notes.new) }
-    ensures refused_read_all { result ≡ 1 → (bytes : List ℕ) → S.left input.old ≡ Some bytes → length bytes ≤ most_input → AtEnd (S.left input.new) }
+    ensures refused_line { result ≡ status_refused → IsRefusedOn (N.taken notes.old) (N.taken notes.new) }
+    ensures refused_read_all { result ≡ status_refused → (bytes : List ℕ) → S.left input.old ≡ Some bytes → length bytes ≤ most_bytes → AtEnd (S.left input.new) }
 
     // Status 2: exactly where the words are not lawful, and then nothing is read.
-    ensures usage { result ≡ 2 → (IsArcs words.now → ⊥) × (N.taken notes.new ≡ then_bytes (N.taken notes.old) usage_line) }
-    ensures unlawful { (IsArcs words.now → ⊥) → (result ≡ 2) ⊎ (result ≡ 5) }
-    ensures unlawful_part { (IsArcs words.now → ⊥) → result ≡ 5 → TookPart (N.taken notes.old) (N.taken notes.new) usage_line × (K.taken output.new ≡ K.taken output.old) }
+    ensures usage { result ≡ status_usage → (IsArcs words.now → ⊥) × (N.taken notes.new ≡ then_bytes (N.taken notes.old) usage_line) }
+    ensures unlawful { (IsArcs words.now → ⊥) → (result ≡ status_usage) ⊎ (result ≡ status_write_fault) }
+    ensures unlawful_part { (IsArcs words.now → ⊥) → result ≡ status_write_fault → TookPart (N.taken notes.old) (N.taken notes.new) usage_line × (K.taken output.new ≡ K.taken output.old) }
     ensures unread { (IsArcs words.now → ⊥) → input.new ≡ input.old }
 
     // Statuses 4 and 5: only where a count of faults rose.
-    ensures read_fault { result ≡ 4 → Rose (S.faults input.old) (S.faults input.new) × (N.taken notes.new ≡ then_bytes (N.taken notes.old) read_fault_line) }
-    ensures write_fault { result ≡ 5 → Rose (K.faults output.old) (K.faults output.new) ⊎ Rose (N.faults notes.old) (N.faults notes.new) }
-    ensures cut_short { result ≡ 5 → (bytes : List ℕ) → S.left input.old ≡ Some bytes
+    ensures read_fault { result ≡ status_read_fault → Rose (S.faults input.old) (S.faults input.new) × (N.taken notes.new ≡ then_bytes (N.taken notes.old) read_fault_line) }
+    ensures write_fault { result ≡ status_write_fault → Rose (K.faults output.old) (K.faults output.new) ⊎ Rose (N.faults notes.old) (N.faults notes.new) }
+    ensures cut_short { result ≡ status_write_fault → (bytes : List ℕ) → S.left input.old ≡ Some bytes
         → (IsPartlyAnswered words.now bytes (K.taken output.old) (K.taken output.new)
         × (N.taken notes.new ≡ N.taken notes.old) × Rose (K.faults output.old) (K.faults output.new))
         ⊎ (IsPartlyNoted words.now (Rose (S.faults input.old) (S.faults input.new)) bytes (N.taken notes.old) (N.taken notes.new)
         × (K.taken output.new ≡ K.taken output.old) × Rose (N.faults notes.old) (N.faults notes.new)) }
 
     // Once more bytes than the limit came, no more is asked.
-    ensures budget { GaveAtMost (most_input + 1) (S.left input.old) (S.left input.new) }
+    ensures budget { GaveAtMost (most_bytes + 1) (S.left input.old) (S.left input.new) }
 
     // Where no count rose, the answer is the defined one, or there was not enough memory.
-    ensures complete { (bytes : List ℕ) → S.left input.old ≡ Some bytes → IsArcs words.now → length bytes ≤ most_input
+    ensures complete { (bytes : List ℕ) → S.left input.old ≡ Some bytes → IsArcs words.now → length bytes ≤ most_bytes
         → (p : OneLoop) → IsOneLoopText bytes p
         → (Rose (S.faults input.old) (S.faults input.new) → ⊥) → (Rose (K.faults output.old) (K.faults output.new) → ⊥) → (Rose (N.faults notes.old) (N.faults notes.new) → ⊥)
-        → (result ≡ 0) ⊎ (result ≡ 6) }
-    ensures refuses { (bytes : List ℕ) → S.left input.old ≡ Some bytes → IsArcs words.now → (most_input < length bytes) ⊎ IsNoOneLoop bytes
+        → (result ≡ status_answered) ⊎ (result ≡ status_memory) }
+    ensures refuses { (bytes : List ℕ) → S.left input.old ≡ Some bytes → IsArcs words.now → (most_bytes < length bytes) ⊎ IsNoOneLoop bytes
         → (Rose (S.faults input.old) (S.faults input.new) → ⊥) → (Rose (N.faults notes.old) (N.faults notes.new) → ⊥)
-        → (result ≡ 1) ⊎ (result ≡ 6) }
+        → (result ≡ status_refused) ⊎ (result ≡ status_memory) }
 {
     if read_words(words).is_err() {
         return say(
@@ -109,7 +110,7 @@ pub fn species<S: Source, K: Sink, N: Sink>(
             USAGE,
         );
     }
-    let bytes = match read_whole(alloc, input, MOST_INPUT) {
+    let bytes = match read_whole(alloc, input, MOST_BYTES) {
         Ok(bytes) => bytes,
         Err(ReadAnswer::TooLong) => {
             return say(notes, b"refused 18 TooLong at 4194304\n", REFUSED);

@@ -1,5 +1,6 @@
 //! The statements of the loop, from elements up.
 ghost use Rattle.std.specs.Prelude.{◌≡◌, ◌≤◌, ◌<◌, ◌+◌, ℕ, [], length, pos, IfOk, IfSome, Some};
+ghost use Rattle.species_ast.specs.Limits.{most_bytes};
 ghost use Rattle.species_ast.specs.declared.tree.Expr.TheVariants as expr;
 ghost use Rattle.species_reference.specs.OneLoop.{literal};
 ghost use Rattle.species_cli.specs.OneLoopReading.{Gives, after, sign_at, shift_at, subscript_at, element_at, read_of, begins_with_digit, scaled_at, term_at, sum_at, statement_at, body_at, seen_sign};
@@ -101,7 +102,7 @@ fn read_element<'a>(
     iterator: &[u8],
     bytes: &'a [u8],
 ) -> Result<(Element, &'a [u8]), ReadRefusal>
-    requires { length names.now ≤ 4194304 }
+    requires { length names.now ≤ most_bytes }
     ensures { Gives (λ x. ((x.0.array, x.0.subscript), x.1.now)) result (element_at names.now iterator.now bytes.now) }
 {
     let (name, rest) = bytes.split_at(word_len(bytes));
@@ -133,7 +134,7 @@ fn read_scaled<'a>(
     number: u32,
     bytes: &'a [u8],
 ) -> Result<(Sum, &'a [u8]), ReadRefusal>
-    requires few { length names.now ≤ 4194304 }
+    requires few { length names.now ≤ most_bytes }
     requires small { number ≤ 1073741824 }
     ensures value { Gives (λ x. ((x.0.value, x.0.elements), x.1.now)) result (scaled_at names.now iterator.now number bytes.now) }
     ensures few { IfOk result (λ x. x.0.elements ≤ 1) }
@@ -169,7 +170,7 @@ fn read_term<'a>(
     iterator: &[u8],
     bytes: &'a [u8],
 ) -> Result<(Sum, &'a [u8]), ReadRefusal>
-    requires { length names.now ≤ 4194304 }
+    requires { length names.now ≤ most_bytes }
     ensures value { Gives (λ x. ((x.0.value, x.0.elements), x.1.now)) result (term_at names.now iterator.now bytes.now) }
     ensures few { IfOk result (λ x. x.0.elements ≤ 1) }
 {
@@ -191,7 +192,7 @@ fn read_sum<'a>(
     first: Sum,
     bytes: &'a [u8],
 ) -> Result<(Sum, &'a [u8]), ReadRefusal>
-    requires few { length names.now ≤ 4194304 }
+    requires few { length names.now ≤ most_bytes }
     requires small { first.elements ≤ 2 }
     ensures value { Gives (λ x. ((x.0.value, x.0.elements), x.1.now)) result (sum_at names.now iterator.now 63 first.value first.elements bytes.now) }
     ensures few { IfOk result (λ x. x.0.elements ≤ 65) }
@@ -222,8 +223,8 @@ fn read_statement<'a>(
     total: usize,
     bytes: &'a [u8],
 ) -> Result<(Stmt, u32, &'a [u8]), ReadRefusal>
-    requires few { length names.now ≤ 4194304 }
-    requires small { total ≤ 4194304 }
+    requires few { length names.now ≤ most_bytes }
+    requires small { total ≤ most_bytes }
     ensures value { Gives (λ x. ((x.0, x.1), x.2.now)) result (statement_at names.now iterator.now total bytes.now) }
     ensures few { IfOk result (λ x. x.1 ≤ 65) }
 {
@@ -256,8 +257,8 @@ pub(super) fn read_body<'a>(
     total: usize,
     bytes: &'a [u8],
 ) -> Result<(Items<Stmt>, &'a [u8]), ReadRefusal>
-    requires few { length names.now ≤ 4194304 }
-    requires small { total ≤ 4194304 }
+    requires few { length names.now ≤ most_bytes }
+    requires small { total ≤ most_bytes }
     ensures { Gives (λ x. (x.0, x.1.now)) result (body_at names.now iterator.now total 512 512 [] bytes.now) }
 {
     let mut body = Items::new(alloc);
