@@ -23,3 +23,4 @@ pub mod SurelySimple
 pub mod SurelyStatements
 pub mod IterationLaws
 pub mod AnywhereLaws
+pub mod LoopLaws

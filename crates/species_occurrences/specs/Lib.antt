@@ -5,3 +5,4 @@ pub mod Regular
 pub mod Law
 pub mod Surely
 pub mod Anywhere
+pub mod Turns
