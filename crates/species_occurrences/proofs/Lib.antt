@@ -24,3 +24,4 @@ pub mod SurelyStatements
 pub mod IterationLaws
 pub mod AnywhereLaws
 pub mod LoopLaws
+pub mod FrontLaws

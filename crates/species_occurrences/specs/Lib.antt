@@ -6,3 +6,4 @@ pub mod Law
 pub mod Surely
 pub mod Anywhere
 pub mod Turns
+pub mod Nesting
