@@ -25,3 +25,5 @@ pub mod IterationLaws
 pub mod AnywhereLaws
 pub mod LoopLaws
 pub mod FrontLaws
+pub mod WalkLaws
+pub mod DepthLaws

@@ -32,6 +32,10 @@ FittingNestsAreDeep = (level depth : ℕ) (schedule : Schedule) (l : Loop) (at :
 abbrev pub PlacedLoopsAreLoops : Type 0
 PlacedLoopsAreLoops = (u : Program) → map (λ x. x.head) (placed_loops u) ≡ loops_in u.body
 
+-- A run comes to loops of the text alone.
+abbrev pub RunningsAreLoops : Type 0
+RunningsAreLoops = (join : Joins) (u : Program) (m : Cells) (r : Running) → ComesTo join u m r → Contains (loops_in u.body) r.loop
+
 -- In a well made unit each marked nest has as many loops as its mark is deep ..
 abbrev pub MarkedNestsAreDeep : Type 0
 MarkedNestsAreDeep = (u : Program) (l : Loop) (depth : ℕ) (schedule : Schedule) (at : List ℕ) → IsWellMade u → Contains (loops_in u.body) l
