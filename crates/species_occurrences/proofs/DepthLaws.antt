@@ -15,13 +15,13 @@ use Rattle.species_ast.specs.Scope.Limits.{is_too_deep, is_too_far}
 use Rattle.species_ast.specs.Scope.Loops.{PlacedLoop, placed_loops}
 use Rattle.species_ast.specs.Scope.Magnitudes.{passes_bound}
 use Rattle.species_ast.specs.Scope.Nests.{front_of, is_unfit, is_bad_mark}
-use Rattle.species_ast.specs.Scope.WellMade.{Around, list_holds, made, made_at, made_loop, has_depth, head_holds, is_made_bound, outermost, IsWellMade}
+use Rattle.species_ast.specs.Scope.WellMade.{Around, list_holds, made, made_at, made_loop, has_depth, is_made_bound, outermost, IsWellMade}
 use Rattle.species_ast.proofs.Folds.{fold_stmt-If, fold_stmt-For, fold_stmt-Block, fold_loop}
 use Rattle.species_ast.proofs.Induction.{Each, each_all, stmt_ind}
 use Rattle.species_ast.proofs.LimitLaws.{kept_unit}
-use Rattle.species_ast.proofs.Paras.{para_stmt-Assign, para_stmt-AddTo, para_stmt-Declare, para_stmt-SetLocal, para_stmt-For}
+use Rattle.species_ast.proofs.Paras.{para_stmt-Assign, para_stmt-AddTo, para_stmt-Declare, para_stmt-SetLocal}
 use Rattle.species_nests.specs.Nests.{loops_at, loops_of, loops_in, nest_of}
-use Rattle.species_nests.proofs.NestLaws.{body_loops, each-append, loops-Block, loops-If, loops-For}
+use Rattle.species_nests.proofs.NestLaws.{body_loops, loops-Block, loops-If, loops-For}
 use Rattle.species_occurrences.specs.Nesting.{MarkedNestsAreDeep, MarkedRunningsAreDeep}
 use Rattle.species_occurrences.proofs.FrontLaws.{fitting_nests_are_deep}
 use Rattle.species_occurrences.proofs.PositionLaws.{each_append}

@@ -1,12 +1,12 @@
 -- The loops of a nest are the first of those that are perfectly nested there, so a mark that fits has its loops.
-use Rattle.std.proofs.Common.{◌≡◌, refl, ap, sym, ◌∙◌, subst, arith, ℕ, zero, suc, ◌+◌, ◌-◌, ◌≤◌, Bool, true, false, ◌||◌, List, [], ◌∷◌, ◌++◌, map, take, length, Option, Some, None}
+use Rattle.std.proofs.Common.{◌≡◌, refl, ap, sym, ◌∙◌, arith, ℕ, zero, suc, ◌-◌, ◌≤◌, Bool, true, false, ◌||◌, List, [], ◌∷◌, ◌++◌, map, take, length, Option, Some, None}
 use Rattle.std.specs.Prelude.{nat_lt}
 use Rattle.std.proofs.lemmas.List.{length-map, length-take-le}
 use Rattle.std.proofs.lemmas.Bool.Decides.{nat_tests}
-use Rattle.species_ast.specs.declared.tree.Loop.{Loop, roll-Loop, out-Loop, fold-Loop}
+use Rattle.species_ast.specs.declared.tree.Loop.{Loop, roll-Loop, out-Loop}
 use Rattle.species_ast.specs.declared.tree.Stmt.{Stmt, fold-Stmt}
 use Rattle.species_ast.specs.declared.tree.Stmt.TheVariants as stmt
-use Rattle.species_ast.specs.Scope.Nests.{Bounds, only_loops, front_step, front_layer, front_of, named_in}
+use Rattle.species_ast.specs.Scope.Nests.{Bounds, only_loops, front_step, front_layer, front_of}
 use Rattle.species_ast.proofs.Folds.{fold_stmt-Assign, fold_stmt-AddTo, fold_stmt-Declare, fold_stmt-SetLocal, fold_stmt-If, fold_stmt-For, fold_stmt-Block, fold_loop-out}
 use Rattle.species_ast.proofs.Induction.{Each, each_all, stmt_ind}
 use Rattle.species_ast.proofs.Paras.{para_stmt-Assign, para_stmt-AddTo, para_stmt-Declare, para_stmt-SetLocal, para_stmt-If}

@@ -1,24 +1,21 @@
 -- The accesses of a loop are those of its turns, and those of a nest are those of its iterations, one after another, for any body.
 use Rattle.std.proofs.Common.{◌≡◌, refl, ap, sym, ◌∙◌, ℕ, suc, List, [], ◌∷◌, ◌++◌, map, flat_map, length, ℤ}
 use Rattle.std.proofs.lemmas.List.{append-nil, append_assoc}
-use Rattle.species_ast.specs.declared.tree.Loop.{Loop}
-use Rattle.species_ast.specs.declared.tree.Unit.{Unit as Program}
 use Rattle.species_ast.specs.Accesses.{Joins, Cells, cell, Tree, Ret, Stop, Read, Write, Add, Cause, Outcome, Ended, Stopped, run, Access, accesses}
 use Rattle.species_ast.specs.Evaluation.{Frame, Context}
-use Rattle.species_ast.specs.Run.{inside, outside, turns, does_scope, source_context, loop_of}
-use Rattle.species_ast.specs.Scope.WellMade.{IsWellMade}
+use Rattle.species_ast.specs.Run.{inside, outside, turns, does_scope, source_context}
 use Rattle.species_ast.proofs.AccessLaws.{go_on, accesses_on, run-then_do, accesses-then_do}
 use Rattle.species_ast.proofs.Induction.{Each}
 use Rattle.species_runs.specs.Every.{IsQuiet}
-use Rattle.species_nests.specs.Arrivals.{header, turn_of, Running, ComesTo}
+use Rattle.species_nests.specs.Arrivals.{header, turn_of}
 use Rattle.species_nests.specs.Effects.{HasQuietHeader}
-use Rattle.species_nests.specs.Meetings.{Ran, on_ended, in_turns, in_loops, running_traces}
+use Rattle.species_nests.specs.Meetings.{Ran, on_ended, in_turns, in_loops}
 use Rattle.species_nests.specs.Nests.{Placed, nest_of, band}
 use Rattle.species_nests.proofs.ArrivalLaws.{loop_is_header}
 use Rattle.species_nests.proofs.FitLaws.{running_fits}
 use Rattle.species_nests.proofs.NestFits.{nest_quiet}
 use Rattle.species_nests.proofs.NestLaws.{nest_is}
-use Rattle.species_occurrences.specs.Turns.{Turn, turns_behind, turns_from, loop_turns, turns_accesses, LoopsAreTheirTurns, RunningsAreTheirTurns, RunningsAreTheirIterations}
+use Rattle.species_occurrences.specs.Turns.{Turn, turns_behind, turns_from, loop_turns, turns_accesses, LoopsAreTheirTurns, RunningsAreTheirTurns, RunningsAreTheirIterations, ran_in, TurnsAreIterations}
 
 -- ---- turns
 
@@ -66,7 +63,7 @@ turns_append join body (i ∷ is) behind f m g n h =
     (sym (run-then_do join (body (inside f i)) (λ k. turns is body (outside f k)) m) ∙ h)
   where
     go : ((k : Frame) (c : Cells) → run join (turns is body (outside f k)) c ≡ Ended g n
-            → turns_from join body (is ++ behind) (outside f k) c ≡ turns_from join body is (outside f k) c ++ turns_from join body behind g n)
+        → turns_from join body (is ++ behind) (outside f k) c ≡ turns_from join body is (outside f k) c ++ turns_from join body behind g n)
         → (o : Outcome Frame) → go_on o (λ k c. run join (turns is body (outside f k)) c) ≡ Ended g n
         → record { frame = inside f i; arrays = m } ∷ turns_behind o (λ k c. turns_from join body (is ++ behind) (outside f k) c)
         ≡ (record { frame = inside f i; arrays = m } ∷ turns_behind o (λ k c. turns_from join body is (outside f k) c)) ++ turns_from join body behind g n
@@ -170,3 +167,27 @@ runnings_are_iterations join u m d r made comes =
     let nest = nest_of d r.loop r.at in
     ap (λ t. accesses join t r.arrays) (nest_is w d r.loop r.at r.frame)
     ∙ loops_are_iterations join w nest.loops (does_scope w nest.body nest.at 0) (nest_quiet w d r (running_fits join u m r made comes)) r.frame r.arrays
+
+-- ---- turns as iterations
+
+behind_same : {X : Type 0} (join : Joins) (body : Frame → Tree Frame) (o : Outcome X) (next : X → Cells → List Ran) (more : X → Cells → List Turn)
+    → ((x : X) (n : Cells) → next x n ≡ map (ran_in join body) (more x n)) → on_ended o next ≡ map (ran_in join body) (turns_behind o more)
+behind_same join body (Ended x n) next more h = h x n
+behind_same join body (Stopped why place) next more h = refl
+
+in_turns_same : (join : Joins) (body : Frame → Tree Frame) (is : List ℤ) (f : Frame) (m : Cells)
+    → in_turns join (λ g n. record { frame = g; accesses = accesses join (body g) n } ∷ []) body is f m ≡ map (ran_in join body) (turns_from join body is f m)
+in_turns_same join body [] f m = refl
+in_turns_same join body (i ∷ is) f m =
+    let each : Frame → Cells → List Ran = λ g n. record { frame = g; accesses = accesses join (body g) n } ∷ [] in
+    ap (λ rs. record { frame = inside f i; accesses = accesses join (body (inside f i)) m } ∷ rs)
+    (behind_same join body (run join (body (inside f i)) m) (λ g n. in_turns join each body is (outside f g) n) (λ g n. turns_from join body is (outside f g) n)
+    (λ g n. in_turns_same join body is (outside f g) n))
+
+-- The iterations of a nest of one loop are its turns.
+pub turns_are_iterations : TurnsAreIterations
+turns_are_iterations join w r =
+    let body = turn_of w r.loop r.at in
+    let each : Frame → Cells → List Ran = λ g n. record { frame = g; accesses = accesses join (body g) n } ∷ [] in
+    behind_same join body (run join (header w r.loop r.at r.frame) r.arrays) (λ is n. in_turns join each body is r.frame n) (λ is n. turns_from join body is r.frame n)
+    (λ is n. in_turns_same join body is r.frame n)

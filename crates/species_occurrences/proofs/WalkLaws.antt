@@ -1,5 +1,5 @@
 -- The walk that says where loops stand comes to the loops of the text, each once, in its order, and a run to no others.
-use Rattle.std.proofs.Common.{◌≡◌, refl, ap, sym, ◌∙◌, subst, arith, ℕ, zero, suc, ◌<◌, ◌≤◌, List, [], ◌∷◌, ◌++◌, map, length}
+use Rattle.std.proofs.Common.{◌≡◌, refl, ap, sym, ◌∙◌, subst, arith, ℕ, suc, List, [], ◌∷◌, ◌++◌, map, length}
 use Rattle.std.specs.List.{Contains}
 use Rattle.std.proofs.lemmas.List.{map-append}
 use Rattle.species_ast.specs.declared.tree.Loop.{Loop, roll-Loop, out-Loop, roll-out-Loop}

@@ -1,5 +1,5 @@
 -- The turns of a loop as they run, and the accesses of loops and nests, turn by turn and iteration by iteration.
-use Rattle.std.specs.Prelude.{◌≡◌, ℕ, List, [], ◌∷◌, ◌++◌, flat_map, ℤ}
+use Rattle.std.specs.Prelude.{◌≡◌, ℕ, List, [], ◌∷◌, ◌++◌, map, flat_map, ℤ}
 use Rattle.species_ast.specs.declared.tree.Loop.{Loop}
 use Rattle.species_ast.specs.declared.tree.Unit.{Unit as Program}
 use Rattle.species_ast.specs.Accesses.{Joins, Cells, Tree, Outcome, Ended, Stopped, run, Access, accesses}
@@ -7,7 +7,7 @@ use Rattle.species_ast.specs.Evaluation.{Frame, Context}
 use Rattle.species_ast.specs.Run.{inside, outside, source_context, loop_of}
 use Rattle.species_ast.specs.Scope.WellMade.{IsWellMade}
 use Rattle.species_nests.specs.Arrivals.{header, turn_of, Running, ComesTo}
-use Rattle.species_nests.specs.Meetings.{running_traces}
+use Rattle.species_nests.specs.Meetings.{Ran, iterations_in, running_traces}
 
 -- A turn where it begins: the frame, in which the iterator has its value, and the arrays.
 pub record Turn : Type 0 where
@@ -43,10 +43,18 @@ LoopsAreTheirTurns = (join : Joins) (w : Context) (l : Loop) (at : List ℕ) (f 
 abbrev pub RunningsAreTheirTurns : Type 0
 RunningsAreTheirTurns = (join : Joins) (u : Program) (m : Cells) (r : Running) → IsWellMade u → ComesTo join u m r
     → let w = source_context u in
-      accesses join (loop_of w r.loop r.at r.frame) r.arrays ≡ turns_accesses join (turn_of w r.loop r.at) (loop_turns join w r.loop r.at r.frame r.arrays)
+    accesses join (loop_of w r.loop r.at r.frame) r.arrays ≡ turns_accesses join (turn_of w r.loop r.at) (loop_turns join w r.loop r.at r.frame r.arrays)
 
 -- They are also those of the iterations of its nest, one after another, to whatever depth the nest is taken. The iterations end
 -- with the first that traps, and each may set locals of the outside.
 abbrev pub RunningsAreTheirIterations : Type 0
 RunningsAreTheirIterations = (join : Joins) (u : Program) (m : Cells) (d : ℕ) (r : Running) → IsWellMade u → ComesTo join u m r
     → let w = source_context u in accesses join (loop_of w r.loop r.at r.frame) r.arrays ≡ flat_map (λ xs. xs) (running_traces join w d r)
+
+-- A turn as an iteration that ran. The iterations of a nest of one loop are its turns.
+abbrev pub ran_in : Joins → (Frame → Tree Frame) → Turn → Ran
+ran_in join body t = record { frame = t.frame; accesses = accesses join (body t.frame) t.arrays }
+
+abbrev pub TurnsAreIterations : Type 0
+TurnsAreIterations = (join : Joins) (w : Context) (r : Running)
+    → iterations_in join w 0 r ≡ map (ran_in join (turn_of w r.loop r.at)) (loop_turns join w r.loop r.at r.frame r.arrays)
