@@ -23,3 +23,7 @@ pub mod SurelySimple
 pub mod SurelyStatements
 pub mod IterationLaws
 pub mod AnywhereLaws
+pub mod LoopLaws
+pub mod FrontLaws
+pub mod WalkLaws
+pub mod DepthLaws

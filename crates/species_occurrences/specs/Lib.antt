@@ -5,3 +5,5 @@ pub mod Regular
 pub mod Law
 pub mod Surely
 pub mod Anywhere
+pub mod Turns
+pub mod Nesting
