@@ -1,3 +1,4 @@
+//! Directives: the form of the one on a line.
 ghost use Rattle.std.specs.Prelude.{◌≡◌, ◌≤◌, ◌<◌, ◌^◌, ◌+◌, codes, length, option_map, IfSome, position, nat_eq};
 ghost use Rattle.species_ast.specs.Limits.{most_bytes};
 ghost use Rattle.species_ast.specs.Text.Characters.{is_letter, is_digit};

@@ -1,3 +1,4 @@
+//! The piece at the front of a text: a token, a blank, a comment or a directive.
 ghost use Rattle.std.specs.Prelude.{◌≡◌, ◌≤◌, ◌<◌, ◌^◌, if◌then◌else◌, length, option_map, IfSome, Some, None, take, IsTrue, codes};
 ghost use Rattle.species_ast.specs.Limits.{most_bytes};
 ghost use Rattle.species_ast.specs.Text.Characters.{begins};

@@ -1,3 +1,4 @@
+//! The next token of a text, with names looked up in the text before it.
 ghost use Rattle.std.specs.Prelude.{true, ◌≡◌, ◌≤◌, ◌<◌, ◌+◌, length, drop, option_map, IfSome, Option, Some, None};
 ghost use Rattle.species_ast.specs.Limits.{most_bytes};
 ghost use Rattle.std.specs.List.{list_any};

@@ -1,3 +1,4 @@
+//! The tokens of a text, one at a time and without memory.
 ghost use Rattle.std.specs.Prelude.{◌≡◌, ◌≤◌, ◌+◌, length};
 ghost use Rattle.species_ast.specs.Limits.{most_bytes};
 ghost use Rattle.species_ast.specs.Text.Stream.{stream_of};
