@@ -1,1 +1,2 @@
+-- The lemmas that proofs cite.
 pub mod ToldLemmas

@@ -1,3 +1,4 @@
+-- The definitions that contracts cite.
 pub mod Told
 pub mod Memory
 pub mod Piecewise

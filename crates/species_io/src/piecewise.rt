@@ -1,3 +1,4 @@
+//! What takes the bytes of an input piece by piece.
 ghost use Rattle.std.specs.Prelude.{◌≡◌, ◌≤◌, ◌-◌, ◌++◌, ℕ, List, length, OnOk, OnErr};
 ghost use Rattle.species_io.specs.Piecewise.{AppendedPart};
 

@@ -1,3 +1,4 @@
+-- The lemmas that proofs cite.
 pub mod PartLemmas
 pub mod Walk
 pub mod Plain

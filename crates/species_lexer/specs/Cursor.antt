@@ -1,5 +1,6 @@
 -- A cursor in a text.
 use Rattle.std.specs.Prelude.{◌≡◌, ℕ, zero, suc, ◌-◌, ◌≤◌, Bool, true, false, List, [], ◌∷◌, length, take, drop, Option, Some, None, unwrap_or, Ok, Err}
+use Rattle.species_ast.specs.Limits.{most_bytes}
 use Rattle.species_ast.specs.Text.Pieces.{Piece, Space, Lexeme, Define, Refused, piece_of}
 use Rattle.species_ast.specs.Text.Stream.{TokenStream, Definition, head_behind, cut_at}
 
@@ -54,7 +55,7 @@ pub record DefinedBefore (text : List ℕ) (defined : ℕ) (at : ℕ) : Type 0 w
 
 -- what holds of a cursor
 pub record IsCursor (text : List ℕ) (at : ℕ) (is_head : Bool) (defined : ℕ) : Type 0 where
-  pub short : length text ≤ 4194304
+  pub short : length text ≤ most_bytes
   pub within : at ≤ length text
   pub reached : IsAt text at is_head
   pub definitions : DefinedBefore text defined at

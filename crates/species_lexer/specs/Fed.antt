@@ -1,5 +1,6 @@
 -- A text that comes in pieces: what of it was cut, and the bytes that are left.
 use Rattle.std.specs.Prelude.{◌≡◌, ◌≤◌, ◌<◌, ℕ, ◌+◌, ◌-◌, Bool, false, List, [], ◌∷◌, ◌++◌, length, take, Option, Some, None, Result, Ok, Err}
+use Rattle.species_ast.specs.Limits.{most_bytes}
 use Rattle.species_ast.specs.Token.{Token}
 use Rattle.species_ast.specs.Text.Pieces.{Piece, Space, Lexeme, Define, Refused}
 use Rattle.species_ast.specs.Text.Stream.{TokenStream, Definition, defined_by, moved, head_behind, cut_at, stream_of}
@@ -58,4 +59,4 @@ pub record IsFed (fed : Fed) (bytes : List ℕ) : Type 0 where
 
 -- how many bytes more may come
 abbrev pub room : Fed → ℕ
-room fed = 4194304 - (fed.cut.place + length fed.left)
+room fed = most_bytes - (fed.cut.place + length fed.left)

@@ -1,3 +1,4 @@
+-- The definitions that contracts cite.
 pub mod Offset
 pub mod Seen
 pub mod Parts

@@ -1,3 +1,4 @@
+//! Blanks and comments, and how far they go.
 ghost use Rattle.std.specs.Prelude.{◌≡◌, ◌≤◌, ◌<◌, ◌+◌, length, IfSome, codes, IsTrue};
 ghost use Rattle.species_ast.specs.Text.Characters.{begins};
 ghost use Rattle.species_ast.specs.Text.Comments.{closing_len, comment_len, last_backslash, splice_at, closed_len, blank_len, gap_len, plain_len, content_len};

@@ -1,5 +1,6 @@
 //! Cutting a text piece by piece, with a table of the names that it defines.
 ghost use Rattle.std.specs.Prelude.{◌≡◌, ◌≤◌, ◌+◌, ◌++◌, ◌∷◌, [], None, List, ℕ, length, drop, OnOk, OnErr, Some, false, true};
+ghost use Rattle.species_ast.specs.Limits.{most_bytes};
 ghost use Rattle.species_ast.specs.Text.Stream.{in_scope, look_up};
 ghost use Rattle.species_ast.specs.declared.token.TokenKind.TheVariants as kind;
 ghost use Rattle.species_lexer.specs.Pieces.{seen_piece, piece_at, Fits};
@@ -41,7 +42,7 @@ impl Cut {
 
     /// Counts the bytes of a token.
     fn behind_token(&mut self, n: usize)
-        requires { self.old.table.length + n ≤ 4194304 }
+        requires { self.old.table.length + n ≤ most_bytes }
         ensures { self.new ≡ record self.old { table = record self.old.table { length = self.old.table.length + n }; is_head = false } }
     {
         self.table.pass(n as u32);
@@ -74,7 +75,7 @@ impl Cut {
 
     /// Cuts the piece at the front of these bytes.
     fn add(&mut self, piece: Piece<'_>, rest: &[u8]) -> Result<usize, CutRefusal>
-        requires short { self.old.table.length + length rest.now ≤ 4194304 }
+        requires short { self.old.table.length + length rest.now ≤ most_bytes }
         requires piece { Some (seen_piece piece) ≡ piece_at self.old.is_head rest.now }
         requires fits { Fits piece rest.now }
         ensures { Adds result (seen_cut self.old) (seen_cut self.new) rest.now (in_scope self.old.names (seen_piece piece.entry)) }
@@ -112,7 +113,7 @@ impl Cut {
     /// Cuts the pieces that end before the last of these bytes, and so end there whatever comes
     /// behind. How many bytes they have. It stops before a refusal, and where memory runs out.
     pub fn add_ended(&mut self, bytes: &[u8]) -> usize
-        requires { self.old.table.length + length bytes.now ≤ 4194304 }
+        requires { self.old.table.length + length bytes.now ≤ most_bytes }
         ensures within { result ≤ length bytes.now }
         ensures counted { self.new.table.length ≡ self.old.table.length + result }
         ensures same { (more : List ℕ) → with_rest (seen_cut self.old) (bytes.now ++ more) ≡ with_rest (seen_cut self.new) (drop result bytes.now ++ more) }
@@ -137,7 +138,7 @@ impl Cut {
 
     /// Cuts all of these bytes, which nothing follows.
     pub fn add_all(&mut self, bytes: &[u8]) -> Result<(), CutRefusal>
-        requires { self.old.table.length + length bytes.now ≤ 4194304 }
+        requires { self.old.table.length + length bytes.now ≤ most_bytes }
         ensures { CutsAll result (seen_cut self.old) (seen_cut self.new) bytes.now }
     {
         let mut at = 0;

@@ -1,5 +1,6 @@
 //! A text that comes in pieces, cut as it comes.
 ghost use Rattle.std.specs.Prelude.{◌≡◌, ◌≤◌, ◌-◌, ◌+◌, ◌++◌, [], List, ℕ, length, take, drop, OnOk, OnErr};
+ghost use Rattle.species_ast.specs.Limits.{most_bytes};
 ghost use Rattle.species_io.specs.Piecewise.{AppendedPart};
 ghost use Rattle.species_lexer.specs.Fed.{IsFed, room};
 ghost use Rattle.species_lexer.specs.Cut.{GivesTable};
@@ -25,6 +26,7 @@ pub struct Cutter {
 
 impl Model for Cutter {
     ghost use Rattle.std.specs.Prelude.{◌≤◌, ◌+◌, length};
+    ghost use Rattle.species_ast.specs.Limits.{most_bytes};
     ghost use Rattle.species_lexer.specs.Fed.{Fed};
     ghost use Rattle.species_lexer.specs.SeenCut.{seen_cut};
 
@@ -32,7 +34,7 @@ impl Model for Cutter {
 
     ghost view = { λ c. record { cut = seen_cut c.cut; left = c.left.items } };
 
-    ghost invariant = { λ c. c.cut.table.length + length c.left.items ≤ 4194304 };
+    ghost invariant = { λ c. c.cut.table.length + length c.left.items ≤ most_bytes };
 }
 
 /// Takes the first `n` bytes away.
@@ -49,7 +51,7 @@ impl Cutter {
     /// A cutter of a text of which nothing has come. Takes no memory.
     pub fn new(alloc: Global) -> Cutter
         ensures empty { IsFed result [] }
-        ensures room { room result ≡ 4194304 }
+        ensures room { room result ≡ most_bytes }
     {
         Cutter {
             cut: Cut::new(alloc),

@@ -1,4 +1,6 @@
+//! Directives: the form of the one on a line.
 ghost use Rattle.std.specs.Prelude.{◌≡◌, ◌≤◌, ◌<◌, ◌^◌, ◌+◌, codes, length, option_map, IfSome, position, nat_eq};
+ghost use Rattle.species_ast.specs.Limits.{most_bytes};
 ghost use Rattle.species_ast.specs.Text.Characters.{is_letter, is_digit};
 ghost use Rattle.species_ast.specs.Text.Parts.{parts_end, offset_of};
 ghost use Rattle.species_ast.specs.Text.Directives.{closed_by, header_len, is_gap, include_of, is_first_in, is_macro_name, define_as, define_of, is_end_of_kernel, species_of, pragma_with, pragma_of, parts_form, content_form, is_include, form_of};
@@ -227,7 +229,7 @@ fn parts_form<'a>(line: &'a [u8], parts: Parts<'a>) -> Form<'a>
 }
 
 fn content_form<'a>(line: &'a [u8], n: usize) -> Form<'a>
-    requires short { length line.now ≤ 4194304 }
+    requires short { length line.now ≤ most_bytes }
     requires within { n ≤ length line.now }
     ensures { seen_form result ≡ content_form line.now n }
 {
@@ -242,7 +244,7 @@ fn content_form<'a>(line: &'a [u8], n: usize) -> Form<'a>
 /// What the directive on a line is. The line has its `#`, and no line feed.
 #[tactic(auto, unfolding(species_ast::specs::Text::Directives::form_of))]
 pub(crate) fn form_of<'a>(line: &'a [u8]) -> Form<'a>
-    requires { length line.now ≤ 4194304 }
+    requires { length line.now ≤ most_bytes }
     ensures { seen_form result ≡ form_of line.now }
 {
     let body = behind(line, 1);

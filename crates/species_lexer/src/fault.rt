@@ -1,3 +1,4 @@
+//! Refusals of a piece of text.
 ghost use Rattle.std.specs.Prelude.{◌≡◌, ◌<◌, ◌≤◌, ◌^◌, ◌+◌};
 ghost use Rattle.species_ast.specs.declared.token.LexRefusal.TheVariants.{BadByte, BadNumber, OpenComment};
 ghost use Rattle.species_lexer.specs.Offset.{offset_in};

@@ -1,3 +1,4 @@
+//! What a directive can be.
 use crate::fault::Fault;
 use crate::parts::Part;
 use species_ast::TokenKind;

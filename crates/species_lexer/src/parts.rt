@@ -1,3 +1,4 @@
+//! The words, numbers and other bytes of a directive.
 ghost use Rattle.std.specs.Prelude.{◌≡◌, ◌∷◌, [], ◌<◌, ◌≤◌, ◌^◌, ◌+◌, suc, length, option_map};
 ghost use Rattle.species_ast.specs.Text.Parts.{part_len, parts_of, after_words, is, is_nothing};
 

@@ -1,3 +1,4 @@
+//! What can stand at the front of a text.
 use crate::fault::Fault;
 use species_ast::{TokenKind, Value};
 

@@ -1,4 +1,6 @@
+//! The piece at the front of a text: a token, a blank, a comment or a directive.
 ghost use Rattle.std.specs.Prelude.{◌≡◌, ◌≤◌, ◌<◌, ◌^◌, if◌then◌else◌, length, option_map, IfSome, Some, None, take, IsTrue, codes};
+ghost use Rattle.species_ast.specs.Limits.{most_bytes};
 ghost use Rattle.species_ast.specs.Text.Characters.{begins};
 ghost use Rattle.species_ast.specs.Text.Comments.{comment_len, splice_at};
 ghost use Rattle.species_ast.specs.Text.Numbers.{literal_of};
@@ -23,7 +25,7 @@ use species_ast::{
 
 /// A `//` comment of `n` bytes.
 fn line_comment<'a>(n: usize, bytes: &'a [u8]) -> Piece<'a>
-    requires short { length bytes.now ≤ 4194304 }
+    requires short { length bytes.now ≤ most_bytes }
     requires some { 0 < n }
     requires within { n ≤ length bytes.now }
     ensures value { seen_piece result ≡ text.line_comment n (splice_at bytes.now) }
@@ -102,7 +104,7 @@ fn defined_as(run: Part, splice: Option<usize>) -> Result<Value, Fault>
 
 /// A directive, whose line has `n` bytes.
 fn directive<'a>(n: usize, bytes: &'a [u8]) -> Piece<'a>
-    requires short { length bytes.now ≤ 4194304 }
+    requires short { length bytes.now ≤ most_bytes }
     requires some { 0 < n }
     requires within { n ≤ length bytes.now }
     ensures value { seen_piece result ≡ text.directive n (splice_at bytes.now) (form_of (take n bytes.now)) }
@@ -125,7 +127,7 @@ fn directive<'a>(n: usize, bytes: &'a [u8]) -> Piece<'a>
 
 /// What begins with `#`: a directive, if only blanks and comments stand before it on its line.
 fn hash<'a>(is_head: bool, n: usize, bytes: &'a [u8]) -> Piece<'a>
-    requires short { length bytes.now ≤ 4194304 }
+    requires short { length bytes.now ≤ most_bytes }
     requires some { 0 < n }
     requires within { n ≤ length bytes.now }
     ensures value { seen_piece result ≡ (if is_head then text.directive n (splice_at bytes.now) (form_of (take n bytes.now)) else text.Refused (BadByte 0)) }
@@ -141,7 +143,7 @@ fn hash<'a>(is_head: bool, n: usize, bytes: &'a [u8]) -> Piece<'a>
 /// The piece at the front of the bytes.
 #[tactic(auto, unfolding(species_ast::specs::Text::Pieces::piece_of))]
 pub(crate) fn piece_at<'a>(is_head: bool, bytes: &'a [u8]) -> Option<Piece<'a>>
-    requires { length bytes.now ≤ 4194304 }
+    requires { length bytes.now ≤ most_bytes }
     ensures value { option_map seen_piece result ≡ piece_at is_head bytes.now }
     ensures fits { IfSome result (λ p. Fits p bytes.now) }
 {

@@ -1,3 +1,4 @@
+//! OpenMP's pragmas of loops and additions.
 ghost use Rattle.std.specs.Prelude.{◌≡◌, codes, option_map, [], ◌∷◌};
 ghost use Rattle.species_ast.specs.Text.Numbers.{literal_of};
 ghost use Rattle.species_ast.specs.Text.Parts.{after_words};

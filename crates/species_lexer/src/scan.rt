@@ -1,4 +1,6 @@
+//! The next token of a text, with names looked up in the text before it.
 ghost use Rattle.std.specs.Prelude.{true, ◌≡◌, ◌≤◌, ◌<◌, ◌+◌, length, drop, option_map, IfSome, Option, Some, None};
+ghost use Rattle.species_ast.specs.Limits.{most_bytes};
 ghost use Rattle.std.specs.List.{list_any};
 ghost use Rattle.species_ast.specs.Text.Characters.{is_line_feed};
 ghost use Rattle.species_ast.specs.Text.Stream.{look_up, head_behind};
@@ -53,7 +55,7 @@ fn space_in(piece: Option<Piece>) -> usize
 
 /// The next place at which something else than a blank, a comment or a skipped directive stands.
 fn past_spaces<'a>(text: &'a [u8], start: usize, starts_line: bool) -> Stop<'a>
-    requires short { length text.now ≤ 4194304 }
+    requires short { length text.now ≤ most_bytes }
     requires within { start ≤ length text.now }
     requires reached { IsAt text.now start starts_line }
     ensures { StopsAt text.now start result }
@@ -109,7 +111,7 @@ fn head_after(piece: Option<Piece>, is_head: bool, bytes: &[u8]) -> bool
 /// The literal that a name was given before a place. It goes through the pieces before that place
 /// again, so that no table is kept.
 fn literal_before(text: &[u8], at: usize, name: &[u8]) -> Option<Value>
-    requires short { length text.now ≤ 4194304 }
+    requires short { length text.now ≤ most_bytes }
     requires within { at ≤ length text.now }
     requires reached { over text.now 0 at true ≡ Some (before_at text.now at) }
     ensures { result ≡ look_up (before_at text.now at).definitions name.now }
@@ -135,7 +137,7 @@ fn literal_before(text: &[u8], at: usize, name: &[u8]) -> Option<Value>
 
 /// What a token is, where a name may be defined before its place.
 fn kind_before(text: &[u8], at: usize, word: &[u8], kind: TokenKind) -> TokenKind
-    requires short { length text.now ≤ 4194304 }
+    requires short { length text.now ≤ most_bytes }
     requires within { at ≤ length text.now }
     requires reached { over text.now 0 at true ≡ Some (before_at text.now at) }
     ensures { result ≡ kind_of (look_up (before_at text.now at).definitions word.now) kind }
@@ -157,7 +159,7 @@ fn token_at<'a>(
     defined: usize,
     piece: Piece<'a>,
 ) -> Result<Option<Step<'a>>, LexRefusal>
-    requires short { length text.now ≤ 4194304 }
+    requires short { length text.now ≤ most_bytes }
     requires within { at ≤ length text.now }
     requires piece { Some (seen_piece piece) ≡ piece_at (before_at text.now at).is_head (drop at text.now) }
     requires fits { Fits piece (drop at text.now) }
@@ -212,7 +214,7 @@ pub(crate) fn next_token<'a>(
     is_head: bool,
     defined: usize,
 ) -> Result<Option<Step<'a>>, LexRefusal>
-    requires short { length text.now ≤ 4194304 }
+    requires short { length text.now ≤ most_bytes }
     requires within { at ≤ length text.now }
     requires reached { IsAt text.now at is_head }
     requires definitions { DefinedBefore text.now defined at }

@@ -1,3 +1,4 @@
+//! Bytes before and behind a place.
 ghost use Rattle.std.specs.Prelude.{◌≡◌, take, drop};
 
 /// The first `n` bytes, or all where there are fewer.

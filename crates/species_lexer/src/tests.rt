@@ -1,3 +1,4 @@
+//! Texts with their tokens, read whole and in pieces.
 use crate::{CutRefusal, Cutter, TokenTable, Tokens};
 use species_io::{MemSource, read_each};
 use std::alloc::Global;

@@ -1,3 +1,4 @@
+//! A token of a program.
 use species_ast::TokenKind;
 
 /// A token of a program. `place` is the byte offset of its first byte, for a directive that of its

@@ -1,4 +1,6 @@
+//! The tokens of a text, one at a time and without memory.
 ghost use Rattle.std.specs.Prelude.{◌≡◌, ◌≤◌, ◌+◌, length};
+ghost use Rattle.species_ast.specs.Limits.{most_bytes};
 ghost use Rattle.species_ast.specs.Text.Stream.{stream_of};
 
 use crate::scan::next_token;
@@ -34,7 +36,7 @@ impl<'a> Tokens<'a> {
 
     /// The tokens of a program.
     pub fn new(bytes: &'a [u8]) -> Tokens<'a>
-        requires { length bytes.now ≤ 4194304 }
+        requires { length bytes.now ≤ most_bytes }
         ensures { result ≡ stream_of bytes.now }
     {
         Tokens {

@@ -14,6 +14,11 @@ use Rattle.species_parser.specs.Listed.{GivesTokens}
 use Rattle.species_parser.specs.Parsing.{unit}
 use Rattle.species_parser.specs.Parsed.{Answers}
 use Rattle.species_parser.specs.Finished.{GivesWhole, answer_of}
+use Rattle.species_parser.specs.Tabled.{as_parsed}
+use Rattle.species_lexer.specs.Entries.{Table}
+use Rattle.species_lexer.specs.Cut.{IsTableOf}
+use Rattle.species_parser.specs.declared.refusal.TableRefusal.{TableRefusal}
+use Rattle.species_parser.specs.declared.refusal.TableRefusal.TheVariants as table
 use Rattle.species_parser.specs.declared.refusal.ReadRefusal.{ReadRefusal}
 use Rattle.species_parser.specs.declared.refusal.ReadRefusal.TheVariants.{Lex, Load, Syntax, Memory}
 use Rattle.species_parser.proofs.Forms.{unit_whole}
@@ -38,23 +43,37 @@ pub answers_load : (text : List ℕ) (ts : List Token) (o : Option ℕ) (place :
 answers_load text ts o place l e f = (ts, has_tokens text ts l, sym e ∙ f)
 
 answers_reader : (text : List ℕ) (ts : List Token) → HasTokens text ts → load_refusal ts ≡ None → (a : Answer Token RawUnit) → whole (unit_at (suc (length ts))) ts ≡ a
-    → Answers text (answer_of (length text) a)
+    → Answers text (as_parsed (answer_of (length text) a))
 answers_reader text ts t l (Answer.read u rest) e = ((ts, t, l), (ts, t, unit_decides.sound (suc (length ts)) ts u rest e))
 answers_reader text ts t l (Answer.stuck back) e = ((ts, t, l), ts, back, t, stuck_errs (suc (length ts)) ts back (omega arith) e, refl)
 answers_reader text ts t l Answer.shallow e = tt
 
 -- an answer that was given is so, if what the reader says is
-answers_given : (text : List ℕ) (a : Answer Token RawUnit) → Answers text (answer_of (length text) a) → (r : Result RawUnit ReadRefusal) → GivesWhole (length text) r a → Answers text r
-answers_given text a k (Ok u) h = subst (Answers text) h k
-answers_given text a k (Err (Lex q)) h = subst (Answers text) h k
-answers_given text a k (Err (Load place)) h = subst (Answers text) h k
-answers_given text a k (Err (Syntax place)) h = subst (Answers text) h k
-answers_given text a k (Err Memory) h = tt
+answers_given : (text : List ℕ) (a : Answer Token RawUnit) → Answers text (as_parsed (answer_of (length text) a)) → (r : Result RawUnit TableRefusal) → GivesWhole (length text) r a
+    → Answers text (as_parsed r)
+answers_given text a k (Ok u) h = subst (λ z. Answers text (as_parsed z)) h k
+answers_given text a k (Err (table.Load place)) h = subst (λ z. Answers text (as_parsed z)) h k
+answers_given text a k (Err (table.Syntax place)) h = subst (λ z. Answers text (as_parsed z)) h k
+answers_given text a k (Err table.Memory) h = tt
 
 pub answers_whole : (text : List ℕ) (ts : List Token) (o : Option ℕ) → Listed text ts → o ≡ load_refusal ts → o ≡ None
-    → (r : Result RawUnit ReadRefusal) → GivesWhole (length text) r (whole unit ts) → Answers text r
+    → (r : Result RawUnit TableRefusal) → GivesWhole (length text) r (whole unit ts) → Answers text (as_parsed r)
 answers_whole text ts o l e f r h =
     answers_given text (whole unit ts) (answers_reader text ts (has_tokens text ts l) (sym e ∙ f) (whole unit ts) (sym (unit_whole ts))) r h
+
+-- the tokens of a table are those of its text
+listed : (t : Table) (text : List ℕ) (ts : List Token) → IsTableOf t text → ts ≡ grammar_tokens t.tokens → Listed text ts
+listed t text ts is e = record { refusal = ap (λ s. s.refusal) is.0; tokens = e ∙ ap (λ s. grammar_tokens s.tokens) (sym is.0) }
+
+pub table_load : (t : Table) (o : Option ℕ) (place : ℕ) → o ≡ load_refusal (grammar_tokens t.tokens) → o ≡ Some place
+    → (text : List ℕ) → IsTableOf t text → IsRefusedByLoad text place
+table_load t o place e f text is = answers_load text (grammar_tokens t.tokens) o place (listed t text (grammar_tokens t.tokens) is refl) e f
+
+pub table_whole : (t : Table) (o : Option ℕ) → o ≡ load_refusal (grammar_tokens t.tokens) → o ≡ None
+    → (r : Result RawUnit TableRefusal) → GivesWhole t.length r (whole unit (grammar_tokens t.tokens)) → (text : List ℕ) → IsTableOf t text → Answers text (as_parsed r)
+table_whole t o e f r h text is =
+    answers_whole text (grammar_tokens t.tokens) o (listed t text (grammar_tokens t.tokens) is refl) e f r
+    (subst (λ n. GivesWhole n r (whole unit (grammar_tokens t.tokens))) is.1 h)
 
 told : Verdict → Result RawUnit ReadRefusal
 told (Verdict.accepted u) = Ok u

@@ -1,3 +1,4 @@
+-- The lemmas that proofs cite.
 pub mod Words
 pub mod ExpressionLaws
 pub mod Operands

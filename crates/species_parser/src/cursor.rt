@@ -7,28 +7,34 @@ ghost use Rattle.species_parser.specs.Reading.{parallel_reader};
 ghost use Rattle.species_parser.specs.Operators.{seen_operator, placed_number};
 ghost use Rattle.species_parser.specs.Given.{Gives, GivesSeen, seen_tokens};
 
+mod front;
 mod place;
 
+use crate::left::Left;
 use crate::operators::{Operator, operator_of};
 use crate::stop::Stop;
 use species_ast::{RawName, RawOp, RawUnary, Schedule, Test, TokenKind, Value};
-use species_lexer::Token;
+use species_lexer::{Token, TokenTable};
 use std::marker::Model;
 
-/// The tokens that are left. Contracts see them as a list.
+/// The tokens that are left, the next one of them at hand. Contracts see them as a list.
 #[derive(Drop)]
 pub(crate) struct Cursor<'t, 'a> {
-    tokens: &'t [Token<'a>],
+    /// None at the end.
+    first: Option<Token<'a>>,
+    /// What stands behind it.
+    left: Left<'t, 'a>,
 }
 
 impl<'t, 'a> Model for Cursor<'t, 'a> {
     ghost use Rattle.std.specs.Prelude.{List};
     ghost use Rattle.species_ast.specs.Token as ast;
-    ghost use Rattle.species_parser.specs.Given.{seen_tokens};
+    ghost use Rattle.species_parser.specs.Front.{before};
+    ghost use Rattle.species_parser.specs.Left.{seen_left};
 
     ghost Value = { List ast.Token };
 
-    ghost view = { λ c. seen_tokens c.tokens.now };
+    ghost view = { λ c. before c.first (seen_left c.left) };
 }
 
 fn is_the_punctuator(token: &Token<'_>, punctuator: &[u8]) -> bool
@@ -60,20 +66,39 @@ fn spelling_of<'a>(token: &Token<'a>) -> RawName<'a>
 }
 
 impl<'t, 'a> Cursor<'t, 'a> {
+    ghost use Rattle.species_ast.specs.Text.Stream as text;
+    ghost use Rattle.species_parser.specs.Left.{seen_left};
+
     /// A cursor before the first of these.
-    pub(crate) fn new(tokens: &'t [Token<'a>]) -> Cursor<'t, 'a>
+    fn new(left: Left<'t, 'a>) -> Cursor<'t, 'a>
+        ensures { result ≡ seen_left left.entry }
+    {
+        let mut left = left;
+        let first = left.next();
+        Cursor { first, left }
+    }
+
+    /// A cursor over a list of tokens.
+    pub(crate) fn listed(tokens: &'t [Token<'a>]) -> Cursor<'t, 'a>
         ensures { result ≡ seen_tokens tokens.now }
     {
-        Cursor { tokens }
+        Cursor::new(Left::Listed(tokens))
+    }
+
+    /// A cursor over the tokens of a table that the grammar sees.
+    pub(crate) fn over(table: &'a TokenTable) -> Cursor<'t, 'a>
+        ensures { result ≡ text.grammar_tokens table.now.tokens }
+    {
+        Cursor::new(Left::Table(table.cursor()))
     }
 
     /// Whether this punctuator stands next.
     pub(crate) fn is_at_punctuator(&self, punctuator: &[u8]) -> bool
         ensures { result ≡ starts (is_of (punctuator_of punctuator.now)) self.now }
     {
-        match self.tokens {
-            [first, ..] => is_the_punctuator(first, punctuator),
-            [] => false,
+        match self.first {
+            Some(first) => is_the_punctuator(&first, punctuator),
+            None => false,
         }
     }
 
@@ -81,9 +106,9 @@ impl<'t, 'a> Cursor<'t, 'a> {
     pub(crate) fn is_at_keyword(&self, keyword: &[u8]) -> bool
         ensures { result ≡ starts (is_of (keyword_of keyword.now)) self.now }
     {
-        match self.tokens {
-            [first, ..] => is_the_keyword(first, keyword),
-            [] => false,
+        match self.first {
+            Some(first) => is_the_keyword(&first, keyword),
+            None => false,
         }
     }
 
@@ -92,9 +117,10 @@ impl<'t, 'a> Cursor<'t, 'a> {
         ensures value { Gives result self.new (word (punctuator_of punctuator.now) self.old) }
         ensures shorter { IfOk result (λ _. length self.new < length self.old) }
     {
-        match self.tokens {
-            [first, rest @ ..] if is_the_punctuator(first, punctuator) => {
-                self.tokens = rest;
+        let next = self.first;
+        match next {
+            Some(first) if is_the_punctuator(&first, punctuator) => {
+                self.first = self.left.next();
                 Ok(first.place)
             }
             _ => Err(Stop::Syntax),
@@ -106,9 +132,10 @@ impl<'t, 'a> Cursor<'t, 'a> {
         ensures value { Gives result self.new (word (keyword_of keyword.now) self.old) }
         ensures shorter { IfOk result (λ _. length self.new < length self.old) }
     {
-        match self.tokens {
-            [first, rest @ ..] if is_the_keyword(first, keyword) => {
-                self.tokens = rest;
+        let next = self.first;
+        match next {
+            Some(first) if is_the_keyword(&first, keyword) => {
+                self.first = self.left.next();
                 Ok(first.place)
             }
             _ => Err(Stop::Syntax),
@@ -120,10 +147,11 @@ impl<'t, 'a> Cursor<'t, 'a> {
         ensures value { Gives result self.new (word names self.old) }
         ensures shorter { IfOk result (λ _. length self.new < length self.old) }
     {
-        match self.tokens {
-            [first, rest @ ..] if matches!(first.kind, TokenKind::Name) => {
-                self.tokens = rest;
-                Ok(spelling_of(first))
+        let next = self.first;
+        match next {
+            Some(first) if matches!(first.kind, TokenKind::Name) => {
+                self.first = self.left.next();
+                Ok(spelling_of(&first))
             }
             _ => Err(Stop::Syntax),
         }
@@ -134,14 +162,11 @@ impl<'t, 'a> Cursor<'t, 'a> {
         ensures { result ≡ starts (is_of numbers) self.now }
     {
         matches!(
-            self.tokens,
-            [
-                Token {
-                    kind: TokenKind::Number(_),
-                    ..
-                },
+            self.first,
+            Some(Token {
+                kind: TokenKind::Number(_),
                 ..
-            ]
+            })
         )
     }
 
@@ -150,15 +175,16 @@ impl<'t, 'a> Cursor<'t, 'a> {
         ensures value { Gives result self.new (mapped placed_number (word numbers) self.old) }
         ensures shorter { IfOk result (λ _. length self.new < length self.old) }
     {
-        match self.tokens {
-            [first, rest @ ..] => match first.kind {
+        let next = self.first;
+        match next {
+            Some(first) => match first.kind {
                 TokenKind::Number(value) => {
-                    self.tokens = rest;
+                    self.first = self.left.next();
                     Ok((first.place, value))
                 }
                 _ => Err(Stop::Syntax),
             },
-            [] => Err(Stop::Syntax),
+            None => Err(Stop::Syntax),
         }
     }
 
@@ -166,9 +192,9 @@ impl<'t, 'a> Cursor<'t, 'a> {
     pub(crate) fn is_at_unary_operator(&self) -> bool
         ensures { result ≡ starts (is_of unary_operators) self.now }
     {
-        match self.tokens {
-            [first, ..] => is_punctuator(first) && RawUnary::of_sign(first.text).is_some(),
-            [] => false,
+        match self.first {
+            Some(first) => is_punctuator(&first) && RawUnary::of_sign(first.text).is_some(),
+            None => false,
         }
     }
 
@@ -177,10 +203,11 @@ impl<'t, 'a> Cursor<'t, 'a> {
         ensures value { Gives result self.new (word unary_operators self.old) }
         ensures shorter { IfOk result (λ _. length self.new < length self.old) }
     {
-        match self.tokens {
-            [first, rest @ ..] if is_punctuator(first) => match RawUnary::of_sign(first.text) {
+        let next = self.first;
+        match next {
+            Some(first) if is_punctuator(&first) => match RawUnary::of_sign(first.text) {
                 Some(operator) => {
-                    self.tokens = rest;
+                    self.first = self.left.next();
                     Ok((first.place, operator))
                 }
                 None => Err(Stop::Syntax),
@@ -193,8 +220,8 @@ impl<'t, 'a> Cursor<'t, 'a> {
     pub(crate) fn is_at_binary_operator(&self, level: u8) -> bool
         ensures { result ≡ starts (λ t. is_some (operators_at level t)) self.now }
     {
-        match self.tokens {
-            [first, ..] if is_punctuator(first) => match operator_of(first.text) {
+        match self.first {
+            Some(first) if is_punctuator(&first) => match operator_of(first.text) {
                 Some(operator) => operator.level() == level,
                 None => false,
             },
@@ -207,10 +234,11 @@ impl<'t, 'a> Cursor<'t, 'a> {
         ensures value { GivesSeen (λ x. (x.0, seen_operator x.1)) result self.new (one (operators_at level) self.old) }
         ensures shorter { IfOk result (λ _. length self.new < length self.old) }
     {
-        match self.tokens {
-            [first, rest @ ..] if is_punctuator(first) => match operator_of(first.text) {
+        let next = self.first;
+        match next {
+            Some(first) if is_punctuator(&first) => match operator_of(first.text) {
                 Some(operator) if operator.level() == level => {
-                    self.tokens = rest;
+                    self.first = self.left.next();
                     Ok((first.place, operator))
                 }
                 _ => Err(Stop::Syntax),
@@ -224,10 +252,11 @@ impl<'t, 'a> Cursor<'t, 'a> {
         ensures value { Gives result self.new (word assignment_operators self.old) }
         ensures shorter { IfOk result (λ _. length self.new < length self.old) }
     {
-        match self.tokens {
-            [first, rest @ ..] if is_punctuator(first) => match RawOp::of_sign(first.text) {
+        let next = self.first;
+        match next {
+            Some(first) if is_punctuator(&first) => match RawOp::of_sign(first.text) {
                 Some(operator) => {
-                    self.tokens = rest;
+                    self.first = self.left.next();
                     Ok((first.place, operator))
                 }
                 None => Err(Stop::Syntax),
@@ -241,10 +270,11 @@ impl<'t, 'a> Cursor<'t, 'a> {
         ensures value { Gives result self.new (word tests self.old) }
         ensures shorter { IfOk result (λ _. length self.new < length self.old) }
     {
-        match self.tokens {
-            [first, rest @ ..] if is_punctuator(first) => match Test::of_sign(first.text) {
+        let next = self.first;
+        match next {
+            Some(first) if is_punctuator(&first) => match Test::of_sign(first.text) {
                 Some(test) => {
-                    self.tokens = rest;
+                    self.first = self.left.next();
                     Ok((first.place, test))
                 }
                 None => Err(Stop::Syntax),
@@ -258,9 +288,10 @@ impl<'t, 'a> Cursor<'t, 'a> {
         ensures value { maybe_word (keyword_of keyword.now) self.old ≡ Answer.read result self.new }
         ensures within { length self.new ≤ length self.old }
     {
-        match self.tokens {
-            [first, rest @ ..] if is_the_keyword(first, keyword) => {
-                self.tokens = rest;
+        let next = self.first;
+        match next {
+            Some(first) if is_the_keyword(&first, keyword) => {
+                self.first = self.left.next();
                 Some(first.place)
             }
             _ => None,
@@ -272,14 +303,11 @@ impl<'t, 'a> Cursor<'t, 'a> {
         ensures { result ≡ starts (is_of includes) self.now }
     {
         matches!(
-            self.tokens,
-            [
-                Token {
-                    kind: TokenKind::Include,
-                    ..
-                },
+            self.first,
+            Some(Token {
+                kind: TokenKind::Include,
                 ..
-            ]
+            })
         )
     }
 
@@ -288,10 +316,11 @@ impl<'t, 'a> Cursor<'t, 'a> {
         ensures value { Gives result self.new (word includes self.old) }
         ensures shorter { IfOk result (λ _. length self.new < length self.old) }
     {
-        match self.tokens {
-            [first, rest @ ..] if matches!(first.kind, TokenKind::Include) => {
-                self.tokens = rest;
-                Ok(spelling_of(first))
+        let next = self.first;
+        match next {
+            Some(first) if matches!(first.kind, TokenKind::Include) => {
+                self.first = self.left.next();
+                Ok(spelling_of(&first))
             }
             _ => Err(Stop::Syntax),
         }
@@ -301,12 +330,12 @@ impl<'t, 'a> Cursor<'t, 'a> {
     pub(crate) fn is_at_loop(&self) -> bool
         ensures { result ≡ starts is_loop self.now }
     {
-        match self.tokens {
-            [first, ..] => {
+        match self.first {
+            Some(first) => {
                 matches!(first.kind, TokenKind::Species | TokenKind::Parallel(..))
-                    || is_the_keyword(first, b"for")
+                    || is_the_keyword(&first, b"for")
             }
-            [] => false,
+            None => false,
         }
     }
 
@@ -315,10 +344,11 @@ impl<'t, 'a> Cursor<'t, 'a> {
         ensures value { maybe_word species_lines self.old ≡ Answer.read result self.new }
         ensures within { length self.new ≤ length self.old }
     {
-        match self.tokens {
-            [first, rest @ ..] if matches!(first.kind, TokenKind::Species) => {
-                self.tokens = rest;
-                Some(spelling_of(first))
+        let next = self.first;
+        match next {
+            Some(first) if matches!(first.kind, TokenKind::Species) => {
+                self.first = self.left.next();
+                Some(spelling_of(&first))
             }
             _ => None,
         }
@@ -329,15 +359,16 @@ impl<'t, 'a> Cursor<'t, 'a> {
         ensures value { parallel_reader self.old ≡ Answer.read result self.new }
         ensures within { length self.new ≤ length self.old }
     {
-        match self.tokens {
-            [first, rest @ ..] => match first.kind {
+        let next = self.first;
+        match next {
+            Some(first) => match first.kind {
                 TokenKind::Parallel(depth, schedule) => {
-                    self.tokens = rest;
+                    self.first = self.left.next();
                     Some((depth, schedule))
                 }
                 _ => None,
             },
-            [] => None,
+            None => None,
         }
     }
 
@@ -346,14 +377,11 @@ impl<'t, 'a> Cursor<'t, 'a> {
         ensures { result ≡ starts (is_of atomic_lines) self.now }
     {
         matches!(
-            self.tokens,
-            [
-                Token {
-                    kind: TokenKind::Atomic,
-                    ..
-                },
+            self.first,
+            Some(Token {
+                kind: TokenKind::Atomic,
                 ..
-            ]
+            })
         )
     }
 
@@ -362,10 +390,11 @@ impl<'t, 'a> Cursor<'t, 'a> {
         ensures value { Gives result self.new (word atomic_lines self.old) }
         ensures shorter { IfOk result (λ _. length self.new < length self.old) }
     {
-        match self.tokens {
-            [first, rest @ ..] if matches!(first.kind, TokenKind::Atomic) => {
-                self.tokens = rest;
-                Ok(spelling_of(first))
+        let next = self.first;
+        match next {
+            Some(first) if matches!(first.kind, TokenKind::Atomic) => {
+                self.first = self.left.next();
+                Ok(spelling_of(&first))
             }
             _ => Err(Stop::Syntax),
         }

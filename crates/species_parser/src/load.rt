@@ -1,44 +1,14 @@
 //! The load of a list of tokens.
 ghost use Rattle.std.specs.Prelude.{◌≡◌, ◌<◌, ◌^◌, IfOk};
-ghost use Rattle.species_ast.specs.Text.Load.{spelling_of, is_spelled, is_else_next, no_load, load_refusal};
+ghost use Rattle.species_ast.specs.Text.Load.{no_load, load_refusal};
 ghost use Rattle.species_lexer.specs.Tokens.{seen_token};
-ghost use Rattle.species_parser.specs.Given.{seen_tokens};
 
+use crate::cursor::Cursor;
+use crate::spelling::is_spelled;
 use species_ast::MOST_LOAD;
-use species_lexer::{Token, TokenKind};
+use species_lexer::Token;
 use std::alloc::{AllocError, Global};
 use std::marker::Model;
-
-/// The spelling of a keyword or punctuator, and nothing for other tokens.
-fn spelling<'a>(token: &Token<'a>) -> &'a [u8]
-    ensures { result.now ≡ spelling_of token.now.kind token.now.text.now }
-{
-    match token.kind {
-        TokenKind::Keyword | TokenKind::Punct => token.text,
-        TokenKind::Name
-        | TokenKind::Number(_)
-        | TokenKind::Include
-        | TokenKind::Define(_)
-        | TokenKind::Species
-        | TokenKind::Parallel(_, _)
-        | TokenKind::Atomic => b"",
-    }
-}
-
-fn is_spelled(token: &Token<'_>, text: &[u8]) -> bool
-    ensures { result ≡ is_spelled (seen_token token.now) text.now }
-{
-    spelling(token) == text
-}
-
-fn is_else_next(tokens: &[Token<'_>]) -> bool
-    ensures { result ≡ is_else_next (seen_tokens tokens.now) }
-{
-    match tokens {
-        [next, ..] => is_spelled(next, b"else"),
-        [] => false,
-    }
-}
 
 /// The load, what it was behind each `{` that is not closed, and how many `(` are not closed.
 /// Contracts see the load behind the last `{` first.
@@ -74,8 +44,7 @@ impl Load {
 
     /// Adds a token, and what it opens or closes.
     fn count(&mut self, token: &Token<'_>) -> Result<(), AllocError>
-        requires small { self.old.load + 1 < 2 ^ 32 }
-        requires few { self.old.brackets + 1 < 2 ^ 64 }
+        requires { self.old.load + 1 < 2 ^ 32 }
         ensures { OnOk result (self.new ≡ counted (seen_token token.now) self.old) }
     {
         self.load += 1;
@@ -84,7 +53,7 @@ impl Load {
         } else if is_spelled(token, b"}") {
             self.blocks.pop();
         } else if is_spelled(token, b"(") {
-            self.brackets += 1;
+            self.brackets = self.brackets.checked_add(1).ok_or(AllocError)?;
         } else if is_spelled(token, b")") {
             self.brackets = self.brackets.saturating_sub(1);
         }
@@ -98,10 +67,10 @@ impl Load {
     }
 
     /// Ends what a token that was counted ends.
-    fn settle(&mut self, token: &Token<'_>, rest: &[Token<'_>])
-        ensures { self.new ≡ settled (seen_token token.now) (seen_tokens rest.now) self.old }
+    fn settle(&mut self, token: &Token<'_>, rest: &Cursor<'_, '_>)
+        ensures { self.new ≡ settled (seen_token token.now) rest.now self.old }
     {
-        if self.ends_statement(token) && !is_else_next(rest) {
+        if self.ends_statement(token) && !rest.is_at_else() {
             self.load = match self.blocks.last() {
                 Some(load) => *load,
                 None => 0,
@@ -111,16 +80,17 @@ impl Load {
 }
 
 /// The place of the first token with which the load is above its limit.
-pub(crate) fn load_refusal(alloc: Global, tokens: &[Token<'_>]) -> Result<Option<u32>, AllocError>
-    ensures { IfOk result (λ place. place ≡ load_refusal (seen_tokens tokens.now)) }
+pub(crate) fn load_refusal(alloc: Global, tokens: Cursor<'_, '_>) -> Result<Option<u32>, AllocError>
+    ensures { IfOk result (λ place. place ≡ load_refusal tokens.entry) }
 {
     let mut load = Load::new(alloc);
-    for (index, token) in tokens.iter().enumerate() {
-        load.count(token)?;
+    let mut left = tokens;
+    while let Some(token) = left.next() {
+        load.count(&token)?;
         if load.load > MOST_LOAD {
             return Ok(Some(token.place));
         }
-        load.settle(token, &tokens[index + 1..]);
+        load.settle(&token, &left);
     }
     Ok(None)
 }

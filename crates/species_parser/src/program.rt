@@ -1,52 +1,55 @@
 //! Reading a whole program.
 ghost use Rattle.std.specs.Prelude.{◌≤◌, ℕ, Ok, Err, length};
+ghost use Rattle.species_ast.specs.Limits.{most_bytes};
 ghost use Rattle.species_grammar.specs.Whole.{whole};
 ghost use Rattle.species_ast.specs.Reading.{IsAccepted, IsRefusedByText, IsRefusedByLoad, IsRefusedByGrammar};
 ghost use Rattle.species_ast.specs.declared.raw.RawUnit.{RawUnit};
 ghost use Rattle.species_ast.specs.declared.token.LexRefusal.{LexRefusal};
-ghost use Rattle.species_parser.specs.Given.{seen_tokens};
 ghost use Rattle.species_parser.specs.Finished.{GivesWhole};
 ghost use Rattle.species_parser.specs.Parsed.{Answers, IsUnlessMemory};
 ghost use Rattle.species_parser.specs.Parsing.{unit};
 
 use crate::cursor::Cursor;
 use crate::load::load_refusal;
-use crate::refusal::ReadRefusal;
+use crate::refusal::{ReadRefusal, TableRefusal};
 use crate::stop::Stop;
 use crate::tokens::grammar_tokens;
 use crate::units::unit;
 use species_ast::RawUnit;
-use species_lexer::Token;
 use std::alloc::Global;
 
 /// The unit that all these tokens are, of a program of so many bytes.
-fn whole_unit<'a>(
+pub(crate) fn whole_unit<'a>(
     alloc: Global,
-    tokens: &[Token<'a>],
+    tokens: Cursor<'_, 'a>,
     size: u32,
-) -> Result<RawUnit<'a>, ReadRefusal>
-    ensures { GivesWhole size result (whole unit (seen_tokens tokens.now)) }
+) -> Result<RawUnit<'a>, TableRefusal>
+    ensures { GivesWhole size result (whole unit tokens.entry) }
 {
-    let mut cursor = Cursor::new(tokens);
+    let mut cursor = tokens;
     match unit(alloc, &mut cursor) {
         Ok(unit) => match cursor.place() {
             None => Ok(unit),
-            Some(place) => Err(ReadRefusal::Syntax(place)),
+            Some(place) => Err(TableRefusal::Syntax(place)),
         },
-        Err(Stop::Syntax) => Err(ReadRefusal::Syntax(cursor.place().unwrap_or(size))),
-        Err(Stop::Memory) => Err(ReadRefusal::Memory),
+        Err(Stop::Syntax) => Err(TableRefusal::Syntax(cursor.place().unwrap_or(size))),
+        Err(Stop::Memory) => Err(TableRefusal::Memory),
     }
 }
 
 /// What `parse` answers.
 fn read<'a>(alloc: Global, bytes: &'a [u8]) -> Result<RawUnit<'a>, ReadRefusal>
-    requires { length bytes.now ≤ 4194304 }
+    requires { length bytes.now ≤ most_bytes }
     ensures { Answers bytes.now result }
 {
     let tokens = grammar_tokens(alloc, bytes)?;
-    match load_refusal(alloc, &tokens)? {
+    match load_refusal(alloc, Cursor::listed(&tokens))? {
         Some(place) => Err(ReadRefusal::Load(place)),
-        None => whole_unit(alloc, &tokens, bytes.len() as u32),
+        None => Ok(whole_unit(
+            alloc,
+            Cursor::listed(&tokens),
+            bytes.len() as u32,
+        )?),
     }
 }
 
@@ -54,7 +57,7 @@ fn read<'a>(alloc: Global, bytes: &'a [u8]) -> Result<RawUnit<'a>, ReadRefusal>
 /// its grammar. A place is a byte offset, and that of a syntax error is the length of the program
 /// where the program ends too early. The tree borrows the names from the bytes.
 pub fn parse<'a>(alloc: Global, bytes: &'a [u8]) -> Result<RawUnit<'a>, ReadRefusal>
-    requires { length bytes.now ≤ 4194304 }
+    requires { length bytes.now ≤ most_bytes }
 
     // Each answer is true of the text.
     ensures answers { Answers bytes.now result }

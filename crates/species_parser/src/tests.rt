@@ -1,3 +1,4 @@
+//! Programs with the trees, places or refusals that they are read as.
 mod depth;
 mod examples;
 mod expressions;
@@ -5,6 +6,7 @@ mod loops;
 mod places;
 mod shown;
 mod statements;
+mod tables;
 mod types;
 mod units;
 

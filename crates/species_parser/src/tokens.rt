@@ -1,5 +1,6 @@
 //! The tokens of a whole text.
 ghost use Rattle.std.specs.Prelude.{◌≡◌, ◌≤◌, length};
+ghost use Rattle.species_ast.specs.Limits.{most_bytes};
 ghost use Rattle.species_ast.specs.Text.Stream.{is_definition, stream_of};
 ghost use Rattle.species_parser.specs.Listed.{GivesTokens};
 
@@ -7,7 +8,8 @@ use crate::refusal::ReadRefusal;
 use species_lexer::{Token, TokenKind, Tokens};
 use std::alloc::Global;
 
-fn is_definition(kind: TokenKind) -> bool
+/// Whether the grammar does not see the token.
+pub(crate) fn is_definition(kind: TokenKind) -> bool
     ensures { result ≡ is_definition kind }
 {
     match kind {
@@ -28,7 +30,7 @@ pub(crate) fn grammar_tokens<'a>(
     alloc: Global,
     bytes: &'a [u8],
 ) -> Result<Vec<Token<'a>>, ReadRefusal>
-    requires { length bytes.now ≤ 4194304 }
+    requires { length bytes.now ≤ most_bytes }
     ensures { GivesTokens result (stream_of bytes.now) }
 {
     let mut left = Tokens::new(bytes);

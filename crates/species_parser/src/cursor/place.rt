@@ -9,9 +9,9 @@ impl<'t, 'a> Cursor<'t, 'a> {
     pub(crate) fn place(&self) -> Option<u32>
         ensures { result ≡ next_place self.now }
     {
-        match self.tokens {
-            [first, ..] => Some(first.place),
-            [] => None,
+        match self.first {
+            Some(first) => Some(first.place),
+            None => None,
         }
     }
 }

@@ -71,6 +71,27 @@ static ARRAYS: [(&str, &str); 3] = [
     ("static unsigned long long void k() {}", "Syntax(26)"),
 ];
 
+static SUM: &str = "unsigned long long s[1];
+unsigned long long A[3];
+void k(void) {
+    for (int i = 0; i < 3; i++) s[0] += A[i];
+}
+";
+
+static WIDE_PRODUCT: &str = "long long p[1];
+int A[1];
+void k(void) {
+    for (int i = 0; i < 1; i++) p[0] = A[0] * 2147483647ll;
+}
+";
+
+static NARROW_PRODUCT: &str = "long long p[1];
+int A[1];
+void k(void) {
+    for (int i = 0; i < 1; i++) p[0] = A[0] * 2147483647;
+}
+";
+
 #[test]
 fn two_words_long_make_a_type(rt: HostRuntime) -> Result<(), Fail> {
     compare_statements(&rt, rt.alloc(), &DECLARED)
@@ -89,4 +110,23 @@ fn casts_name_types_of_two_and_more_words(rt: HostRuntime) -> Result<(), Fail> {
 #[test]
 fn arrays_have_types_of_two_and_more_words(rt: HostRuntime) -> Result<(), Fail> {
     compare_programs(&rt, rt.alloc(), &ARRAYS)
+}
+
+#[test]
+fn kernels_of_64_bits_are_read(rt: HostRuntime) -> Result<(), Fail> {
+    let cases = [
+        (
+            SUM,
+            "(global unsigned-long-long (s 1)) (global unsigned-long-long (A 3)) (void k (for typed i 0 i < 3 (up i) (+= (s 0) (A i))))",
+        ),
+        (
+            WIDE_PRODUCT,
+            "(global long-long (p 1)) (global int (A 1)) (void k (for typed i 0 i < 1 (up i) (= (p 0) (* (A 0) 2147483647ll))))",
+        ),
+        (
+            NARROW_PRODUCT,
+            "(global long-long (p 1)) (global int (A 1)) (void k (for typed i 0 i < 1 (up i) (= (p 0) (* (A 0) 2147483647))))",
+        ),
+    ];
+    compare_programs(&rt, rt.alloc(), &cases)
 }

@@ -1,3 +1,4 @@
+-- The goals of `read_each` that need an answer.
 use Rattle.std.proofs.Common.{rules, ◌≡◌, ◌≤◌, ◌<◌, ◌+◌, ◌-◌, ◌++◌, ℕ, List, length, length-append, arith}
 use Rattle.species_io.proofs.ToldLemmas.{gave_more, means_more, handed_part}
 use Rattle.species_io.proofs.whole.read_each.Goals as goal

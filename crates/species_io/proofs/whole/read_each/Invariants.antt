@@ -1,3 +1,4 @@
+-- What the loop of `read_each` keeps, and what falls in each turn.
 use Rattle.std.proofs.Common.{◌≡◌, ◌≤◌, ◌-◌, ◌+◌, ◌++◌, ℕ, List, length}
 use Rattle.species_io.specs.Told.{before}
 use Rattle.species_io.proofs.whole.read_each.Given as goal

@@ -1,3 +1,4 @@
+-- The goals of `read_whole` that need an answer.
 use Rattle.std.proofs.Common.{rules, ◌≤◌, ◌+◌, ◌++◌, take, length, length-append, length-take, arith, ap, ◌∙◌}
 use Rattle.species_io.specs.Told.{before}
 use Rattle.species_io.proofs.ToldLemmas.{before-before}

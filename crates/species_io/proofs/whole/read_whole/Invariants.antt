@@ -1,3 +1,4 @@
+-- What the loop of `read_whole` keeps, and what falls in each turn.
 use Rattle.std.proofs.Common.{◌≡◌, ◌≤◌, ◌-◌, length}
 use Rattle.species_io.specs.Told.{before}
 use Rattle.species_io.proofs.whole.read_whole.Given as goal

@@ -1,3 +1,4 @@
+-- The goals of `write_all` that need an answer.
 use Rattle.std.proofs.Common.{rules, ◌++◌, take, ap, ◌∙◌}
 use Rattle.species_io.specs.Told.{then_bytes}
 use Rattle.species_io.proofs.ToldLemmas.{then_bytes-then_bytes, cut}

@@ -1,3 +1,4 @@
+-- What the loop of `write_all` keeps, and what falls in each turn.
 use Rattle.std.proofs.Common.{◌≡◌, ◌≤◌, ◌++◌, ℕ, List, length}
 use Rattle.species_io.specs.Told.{then_bytes}
 use Rattle.species_io.proofs.whole.write_all.Given as goal

@@ -1,3 +1,4 @@
+-- The goals of `closing_len` that need an answer.
 use Rattle.std.proofs.Common.{rules, ◌∙◌}
 use Rattle.species_lexer.proofs.Runs.{closing_later}
 use Rattle.species_lexer.proofs.comments.closing_len.Goals as goal

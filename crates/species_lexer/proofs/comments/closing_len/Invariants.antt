@@ -1,3 +1,4 @@
+-- What the loop of `closing_len` keeps.
 use Rattle.std.proofs.Common.{◌≡◌, ◌+◌, drop}
 use Rattle.std.specs.Prelude.{option_map}
 use Rattle.species_ast.specs.Text.Comments.{closing_len}

@@ -1,3 +1,4 @@
+-- The goals of `content_len` that need an answer.
 use Rattle.std.proofs.Common.{rules, arith, sym, ◌∙◌, ◌<◌}
 use Rattle.species_lexer.proofs.Runs.{content_more}
 use Rattle.species_lexer.proofs.comments.content_len.Goals as goal

@@ -1,3 +1,4 @@
+-- What the loop of `content_len` keeps, and what falls in each turn.
 use Rattle.std.proofs.Common.{◌≡◌, ◌+◌, ◌-◌, ◌≤◌, length, drop}
 use Rattle.species_ast.specs.Text.Comments.{content_len}
 use Rattle.species_lexer.proofs.comments.content_len.Given as goal

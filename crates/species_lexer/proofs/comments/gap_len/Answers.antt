@@ -1,3 +1,4 @@
+-- The goals of `gap_len` that need an answer.
 use Rattle.std.proofs.Common.{rules, arith, sym, ◌∙◌, ◌<◌}
 use Rattle.species_lexer.proofs.Runs.{gap_more}
 use Rattle.species_lexer.proofs.comments.gap_len.Goals as goal

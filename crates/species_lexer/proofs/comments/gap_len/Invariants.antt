@@ -1,3 +1,4 @@
+-- What the loop of `gap_len` keeps, and what falls in each turn.
 use Rattle.std.proofs.Common.{◌≡◌, ◌+◌, ◌-◌, ◌≤◌, length, drop}
 use Rattle.species_ast.specs.Text.Comments.{gap_len}
 use Rattle.species_lexer.proofs.comments.gap_len.Given as goal

@@ -1,3 +1,4 @@
+-- What the loop of `backslash_in` keeps, and what falls in each turn.
 use Rattle.std.proofs.Common.{◌≡◌, length, codes}
 use Rattle.species_ast.specs.Text.Parts.{offset_of}
 use Rattle.species_lexer.specs.Parts.{parts_left}

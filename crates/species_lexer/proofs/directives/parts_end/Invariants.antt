@@ -1,3 +1,4 @@
+-- What the loop of `parts_end` keeps, and what falls in each turn.
 use Rattle.std.proofs.Common.{◌≡◌, length}
 use Rattle.species_ast.specs.Text.Parts.{parts_end}
 use Rattle.species_lexer.specs.Parts.{parts_left}

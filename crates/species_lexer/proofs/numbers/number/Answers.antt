@@ -1,3 +1,4 @@
+-- The goals of `number` that need an answer.
 use Rattle.std.proofs.Common.{sym, ◌∙◌, suc, ◌+◌, ◌*◌, drop}
 use Rattle.species_lexer.proofs.Digits.{too_large, next_digit}
 use Rattle.species_lexer.proofs.numbers.number.Goals as goal

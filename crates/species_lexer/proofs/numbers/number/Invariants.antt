@@ -1,3 +1,4 @@
+-- What the loop of `number` keeps.
 use Rattle.std.proofs.Common.{◌≡◌, ◌≤◌, drop}
 use Rattle.std.specs.Str.Parse.{digits_value, digits_value_after}
 use Rattle.species_lexer.proofs.numbers.number.Given as goal

@@ -1,3 +1,4 @@
+-- What the loop of `run_more` keeps.
 use Rattle.std.proofs.Common.{◌≡◌, ◌+◌, drop}
 use Rattle.species_ast.specs.Text.Numbers.{run_more}
 use Rattle.species_lexer.proofs.numbers.run_more.Given as goal

@@ -1,3 +1,4 @@
+-- The goals of `piece_at` that need an answer.
 use Rattle.std.proofs.Common.{rules, ◌<◌, length, sym}
 use Rattle.species_lexer.proofs.PieceLemmas.{at_digit, at_hash, at_letter}
 use Rattle.species_lexer.proofs.pieces.piece_at.Goals as goal

@@ -1,3 +1,4 @@
+-- The goals of `literal_before` that need an answer.
 use Rattle.std.proofs.Common.{◌≡◌, ◌∙◌, ap, sym, arith, rules, ◌-◌, true}
 use Rattle.species_lexer.specs.Cursor.{over, before_at}
 use Rattle.species_lexer.proofs.Searches.{searches, next, nothing_left}

@@ -1,3 +1,4 @@
+-- What the loop of `literal_before` keeps, and what falls in each turn.
 use Rattle.std.proofs.Common.{◌≡◌, ◌-◌, ◌≤◌, drop, Some}
 use Rattle.species_ast.specs.Text.Stream.{look_up}
 use Rattle.species_lexer.specs.Cursor.{Before, over, before_at}

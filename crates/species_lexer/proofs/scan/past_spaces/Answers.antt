@@ -1,3 +1,4 @@
+-- The goals of `past_spaces` that need an answer.
 use Rattle.std.proofs.Common.{arith, ◌<◌}
 use Rattle.species_lexer.proofs.Stops.{past_one}
 use Rattle.species_lexer.proofs.scan.past_spaces.Goals as goal

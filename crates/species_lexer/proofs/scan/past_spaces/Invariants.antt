@@ -1,3 +1,4 @@
+-- What the loop of `past_spaces` keeps, and what falls in each turn.
 use Rattle.std.proofs.Common.{◌-◌, length}
 use Rattle.species_lexer.specs.Found.{Passes}
 use Rattle.species_lexer.proofs.scan.past_spaces.Given as goal

@@ -1,3 +1,4 @@
+-- The goals of `token_at` that need an answer.
 use Rattle.std.proofs.Common.{sym, ◌∙◌}
 use Rattle.species_lexer.proofs.Answered.{lexeme, define}
 use Rattle.species_lexer.proofs.scan.token_at.Goals as goal

@@ -1,3 +1,4 @@
+-- The goals of `arrays` that need an answer.
 use Rattle.std.proofs.Common.{rules, arith}
 use Rattle.species_grammar.proofs.Free.{repeated_done}
 use Rattle.species_parser.specs.Words.{is_the_punctuator}

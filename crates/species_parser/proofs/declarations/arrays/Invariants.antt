@@ -1,3 +1,4 @@
+-- What the loop of `arrays` keeps, and what falls in each turn.
 use Rattle.std.proofs.Common.{◌≡◌, ◌<◌, length}
 use Rattle.species_grammar.specs.Reader.{prepended}
 use Rattle.species_parser.specs.Parsing.{arrays, more_arrays}

@@ -1,3 +1,4 @@
+-- The goals of the functions of expressions that need an answer.
 use Rattle.std.proofs.Common.{rules, arith, ◌∙◌, ◌-◌, suc}
 use Rattle.std.specs.Prelude.{is_some}
 use Rattle.species_grammar.specs.Reader.{one}

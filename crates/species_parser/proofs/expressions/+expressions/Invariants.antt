@@ -1,3 +1,4 @@
+-- What the loops of the functions of expressions keep, and what falls in each turn.
 use Rattle.std.proofs.Common.{◌≡◌, ◌≤◌, ◌<◌, ◌+◌, ◌-◌, ◌*◌, length}
 use Rattle.species_grammar.specs.Reader.{Answer, prepended}
 use Rattle.species_parser.specs.Parsing.{binary, binary_tail, subscripts}

@@ -1,3 +1,4 @@
+-- The goals of `law_places` that need an answer.
 use Rattle.species_parser.proofs.Places.{expression_place, declaration_place, statement_place}
 use Rattle.species_parser.proofs.law.law_places.Goals as goal
 

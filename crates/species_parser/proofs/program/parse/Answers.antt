@@ -1,3 +1,4 @@
+-- The goals of `parse` that need an answer.
 use Rattle.species_parser.proofs.Answering.{accepted_answer, text_answer, load_answer, syntax_answer}
 use Rattle.species_parser.proofs.program.parse.Goals as goal
 

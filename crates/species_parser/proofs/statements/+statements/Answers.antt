@@ -1,3 +1,4 @@
+-- The goals of the functions of statements that need an answer.
 use Rattle.std.proofs.Common.{rules, arith}
 use Rattle.species_grammar.proofs.Free.{closed_done}
 use Rattle.species_parser.specs.Words.{the_punctuator}

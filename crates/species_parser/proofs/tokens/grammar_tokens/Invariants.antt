@@ -1,3 +1,4 @@
+-- What the loop of `grammar_tokens` keeps, and what falls in each turn.
 use Rattle.std.proofs.Common.{length}
 use Rattle.species_ast.specs.Text.Stream.{stream_of}
 use Rattle.species_parser.proofs.Listing.{Gathers}

@@ -1,3 +1,4 @@
+-- The goals of `unit` that need an answer.
 use Rattle.std.proofs.Common.{rules, ◌∙◌, ap, sym}
 use Rattle.species_grammar.specs.Reader.{◌>>=◌}
 use Rattle.species_parser.specs.Parsing.{unit, after_items}

@@ -1,3 +1,4 @@
+-- What the loop of `unit` keeps, and what falls in each turn.
 use Rattle.std.proofs.Common.{◌≡◌, length}
 use Rattle.species_parser.specs.Parsing.{unit, after_items}
 use Rattle.species_parser.proofs.units.unit.Given as goal

@@ -1,3 +1,4 @@
+//! Expressions as texts.
 use super::{Shown, binary_word, kind_word, unary_word};
 use crate::{RawExpr, RawTarget, RawTerm};
 use species_ast::OutOfMemory;

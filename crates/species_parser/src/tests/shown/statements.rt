@@ -1,3 +1,4 @@
+//! Statements and declarations as texts.
 use super::expressions::{put_expr, put_target};
 use super::{Shown, kind_word, op_word, test_word};
 use crate::{RawChange, RawExpr, RawLocal, RawLoop, RawName, RawStep, RawStmt, RawTarget, RawWhat};

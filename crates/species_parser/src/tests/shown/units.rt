@@ -1,3 +1,4 @@
+//! Units as texts.
 use super::expressions::put_exprs;
 use super::statements::{put_named, put_stmts};
 use super::{Shown, kind_word};

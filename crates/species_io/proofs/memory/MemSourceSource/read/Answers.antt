@@ -1,3 +1,4 @@
+-- The goals of `read` that need an answer.
 use Rattle.std.proofs.Common.{rules, ◌≡◌, ◌+◌, ◌-◌, ◌≤◌, length, take, drop, take_all, length-drop, Some, ap, arith, sym, ◌∙◌}
 use Rattle.species_io.proofs.ToldLemmas.{copied_on}
 use Rattle.species_io.proofs.memory.MemSourceSource.read.Goals as goal

@@ -1,3 +1,4 @@
+-- The goals of `add` that need an answer.
 use Rattle.std.proofs.Common.{rules, ◌≡◌, ◌∙◌, ap, sym, subst, ◌+◌, ◌++◌, ◌∷◌, [], false, None}
 use Rattle.species_ast.specs.declared.token.TokenKind.TheVariants as kind
 use Rattle.species_ast.specs.Text.Stream.{look_up}

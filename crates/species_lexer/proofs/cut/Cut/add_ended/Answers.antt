@@ -1,3 +1,4 @@
+-- The goals of `add_ended` that need an answer.
 use Rattle.species_lexer.specs.SeenCut.{seen_cut}
 use Rattle.species_lexer.proofs.Feeding.{ended_next}
 use Rattle.species_lexer.proofs.cut.Cut.add_ended.Goals as goal

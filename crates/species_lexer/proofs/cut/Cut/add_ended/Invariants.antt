@@ -1,3 +1,4 @@
+-- What the loop of `add_ended` keeps, and what falls in each turn.
 use Rattle.std.proofs.Common.{◌≡◌, ◌≤◌, ◌-◌, ◌+◌, ◌++◌, ℕ, List, length, drop}
 use Rattle.species_lexer.specs.Fed.{with_rest}
 use Rattle.species_lexer.specs.SeenCut.{seen_cut}

@@ -1,3 +1,4 @@
+-- The goals of `finish` that need an answer.
 use Rattle.std.proofs.Common.{rules, ◌≡◌, Err}
 use Rattle.species_lexer.specs.Fed.{Fed}
 use Rattle.species_lexer.specs.SeenCut.{seen_cut}

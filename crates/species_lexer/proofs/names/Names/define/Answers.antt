@@ -1,3 +1,4 @@
+-- The goals of `define` that need an answer.
 use Rattle.std.proofs.Common.{◌≡◌, ◌∙◌, ap, ◌++◌, ◌∷◌, [], None, List}
 use Rattle.std.specs.Prelude.{map, bytes_eq}
 use Rattle.indexmap.specs.IndexMap.{insert_entry}

@@ -1,3 +1,4 @@
+-- The goals of `literal` that need an answer.
 use Rattle.std.proofs.Common.{◌∙◌, ap}
 use Rattle.species_ast.specs.Text.Stream.{look_up}
 use Rattle.species_lexer.proofs.NameLemmas.{looks_up}

@@ -1,3 +1,4 @@
+-- The goals of `split_first` that need an answer.
 use Rattle.std.proofs.Common.{rules, ◌<◌, length}
 use Rattle.species_lexer.proofs.PartLemmas.{parts_next}
 use Rattle.species_lexer.proofs.parts.Parts.split_first.Goals as goal

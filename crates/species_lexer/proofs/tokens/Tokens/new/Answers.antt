@@ -1,3 +1,4 @@
+-- The goals of `new` that need an answer.
 use Rattle.std.proofs.Common.{true, arith}
 use Rattle.species_lexer.proofs.Streams.{first, defined_here}
 use Rattle.species_lexer.proofs.tokens.Tokens.new.Goals as goal
