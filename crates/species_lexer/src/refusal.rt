@@ -1,5 +1,6 @@
 //! Why a text that came in pieces has no table of tokens.
 use species_ast::{LexRefusal, OutOfMemory};
+use std::alloc::AllocError;
 use thiserror::Error;
 
 /// Why a text that came in pieces has no table of tokens.
@@ -20,6 +21,17 @@ impl From<OutOfMemory> for CutRefusal {
     ghost from_gives = { λ _ e. e ≡ Memory };
 
     fn from(_: OutOfMemory) -> CutRefusal {
+        CutRefusal::Memory
+    }
+}
+
+impl From<AllocError> for CutRefusal {
+    ghost use Rattle.std.specs.Prelude.{◌≡◌};
+    ghost use Rattle.species_lexer.specs.declared.refusal.CutRefusal.TheVariants.{Memory};
+
+    ghost from_gives = { λ _ e. e ≡ Memory };
+
+    fn from(_: AllocError) -> CutRefusal {
         CutRefusal::Memory
     }
 }
