@@ -1,11 +1,10 @@
 -- A text that comes in pieces: what of it was cut, and the bytes that are left.
-use Rattle.std.specs.Prelude.{◌≡◌, ◌≤◌, ◌<◌, ℕ, ◌+◌, ◌-◌, Bool, false, List, [], ◌∷◌, ◌++◌, length, take, Option, Some, None, Result, Ok, Err}
+use Rattle.std.specs.Prelude.{◌≡◌, ℕ, ◌+◌, ◌-◌, Bool, false, List, [], ◌∷◌, ◌++◌, length, take, Option, Some, None}
 use Rattle.species_ast.specs.Limits.{most_bytes}
 use Rattle.species_ast.specs.Token.{Token}
-use Rattle.species_ast.specs.Text.Pieces.{Piece, Space, Lexeme, Define, Refused}
+use Rattle.species_ast.specs.Text.Pieces.{Piece, Space, Lexeme, Refused}
 use Rattle.species_ast.specs.Text.Stream.{TokenStream, Definition, defined_by, moved, head_behind, cut_at, stream_of}
 use Rattle.species_ast.specs.declared.token.LexRefusal.{LexRefusal}
-use Rattle.species_lexer.specs.Entries.{Table}
 
 -- The tokens and the definitions of the bytes that were cut, how many bytes these are, and whether only blanks and
 -- comments stand on the line behind the last line feed among them.

@@ -16,7 +16,7 @@ use Rattle.species_ast.specs.declared.raw.RawItem.{RawItem}
 use Rattle.species_ast.specs.declared.raw.RawItem.TheVariants as item
 use Rattle.species_ast.specs.declared.raw.RawStmt.{RawStmt}
 use Rattle.species_ast.specs.declared.raw.RawWhat.TheVariants as what
-use Rattle.species_parser.specs.Words.{the_punctuator, names, is_the_punctuator, is_the_keyword, is_type, goes_on}
+use Rattle.species_parser.specs.Words.{the_punctuator, names, is_the_punctuator, is_type, goes_on}
 use Rattle.species_parser.specs.Reading.{type_reader, subscript_reader, expression_at, subscripts_at, array_of, array_at, more_arrays_at, global_of, global_at, local_of, local_at, more_locals_at, declaration_of, declaration_at}
 use Rattle.species_parser.proofs.Words.{punctuator_is_word, name_is_word}
 use Rattle.species_parser.proofs.ExpressionLaws.{TypeSpelled, TypeBefore, type_lawful, ExprBefore}

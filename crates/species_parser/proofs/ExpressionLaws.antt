@@ -7,7 +7,7 @@ use Rattle.species_grammar.specs.Lawful.{Spelled, Before, Lawful, plain, one_spe
 use Rattle.species_grammar.proofs.Laws.{recast_plain, both_lawful, mapped_lawful, one_lawful, word_lawful, choose_lawful, maybe_word_lawful}
 use Rattle.species_grammar.proofs.Levels.{level_lawful}
 use Rattle.species_ast.specs.Token.{Token}
-use Rattle.species_ast.specs.Grammar.Words.{sign, punctuator, keyword, Optional}
+use Rattle.species_ast.specs.Grammar.Words.{sign, keyword, Optional}
 use Rattle.species_ast.specs.Grammar.Expressions.{TypeSpecifier, Operation, level_of, operation_sign, Expression}
 use Rattle.species_ast.specs.declared.tree.Kind.{Kind}
 use Rattle.species_ast.specs.declared.tree.Kind.TheVariants as kind

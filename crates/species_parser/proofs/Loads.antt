@@ -1,5 +1,5 @@
 -- The load of a list of tokens, while it is counted.
-use Rattle.std.proofs.Common.{◌≡◌, ◌∙◌, ap, sym, refl, ℕ, ◌+◌, ◌-◌, ◌<◌, ◌≤◌, Bool, true, false, ◌&&◌, not, cond, List, [], ◌∷◌, codes, Some, arith, max}
+use Rattle.std.proofs.Common.{◌≡◌, ◌∙◌, ap, sym, refl, ℕ, ◌+◌, ◌-◌, ◌≤◌, Bool, true, false, ◌&&◌, not, cond, List, [], ◌∷◌, codes, Some, arith, max}
 use Rattle.std.proofs.lemmas.Bool.{le-ltb}
 use Rattle.species_ast.specs.Token.{Token}
 use Rattle.species_ast.specs.Limits.{most_load}

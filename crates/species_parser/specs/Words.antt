@@ -5,7 +5,7 @@ use Rattle.species_grammar.specs.Reader.{Word, is_of}
 use Rattle.species_ast.specs.Token.{Token}
 use Rattle.species_ast.specs.Spelling.{Spelling}
 use Rattle.species_ast.specs.Signs.{find_sign, raw_unary_sign, all_raw_unary, all_binary, assignment_sign, all_assignments, test_sign, all_tests}
-use Rattle.species_ast.specs.Grammar.Words.{sign, punctuator, name, number, include, species, parallel, atomic}
+use Rattle.species_ast.specs.Grammar.Words.{sign, name, number, include, species, parallel, atomic}
 use Rattle.species_ast.specs.Grammar.Expressions.{Operation, operation_sign, level_of}
 use Rattle.species_ast.specs.declared.token.TokenKind.{TokenKind}
 use Rattle.species_ast.specs.declared.token.TokenKind.TheVariants as token

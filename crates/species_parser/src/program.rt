@@ -45,11 +45,7 @@ fn read<'a>(alloc: Global, bytes: &'a [u8]) -> Result<RawUnit<'a>, ReadRefusal>
     let tokens = grammar_tokens(alloc, bytes)?;
     match load_refusal(alloc, Cursor::listed(&tokens))? {
         Some(place) => Err(ReadRefusal::Load(place)),
-        None => Ok(whole_unit(
-            alloc,
-            Cursor::listed(&tokens),
-            bytes.len() as u32,
-        )?),
+        None => Ok(whole_unit(alloc, Cursor::listed(&tokens), bytes.len() as u32)?),
     }
 }
 

@@ -45,7 +45,11 @@ fn a_table_is_read_as_its_text(rt: HostRuntime) -> Result<(), Fail> {
     for text in [DEFINED, WRONG, CUT_OFF] {
         let found = table_answer(rt.alloc(), text.as_bytes())?;
         let wanted = answer(rt.alloc(), text.as_bytes(), true)?;
-        assert_eq!(rt; str::from_utf8(&found)?, str::from_utf8(&wanted)?, "at {text}");
+        assert_eq!(rt;
+            str::from_utf8(&found)?,
+            str::from_utf8(&wanted)?,
+            "at {text}"
+        );
     }
     Ok(())
 }

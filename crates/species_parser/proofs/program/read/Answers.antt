@@ -1,5 +1,5 @@
 -- The goals of `read` that need an answer.
-use Rattle.std.proofs.Common.{◌≡◌, ap, sym, ◌∙◌, subst, ℕ, List, length, Option, None, Result}
+use Rattle.std.proofs.Common.{◌≡◌, ap, ◌∙◌, subst, ℕ, List, length, Option, None, Result}
 use Rattle.std.proofs.lemmas.Result.{err_from_is_err_and}
 use Rattle.species_grammar.specs.Whole.{whole}
 use Rattle.species_ast.specs.Token.{Token}

@@ -1,5 +1,4 @@
 -- The goals of `add_all` that need an answer.
-use Rattle.std.proofs.Common.{sym}
 use Rattle.species_lexer.specs.Pieces.{seen_piece}
 use Rattle.species_lexer.specs.SeenCut.{seen_cut}
 use Rattle.species_lexer.proofs.Feeding.{all_next}

@@ -1,6 +1,5 @@
 -- The goals of `finish` that need an answer.
 use Rattle.std.proofs.Common.{rules, ◌≡◌, Err}
-use Rattle.species_lexer.specs.Fed.{Fed}
 use Rattle.species_lexer.specs.SeenCut.{seen_cut}
 use Rattle.species_lexer.proofs.Feeding.{whole_cut, whole_answered}
 use Rattle.species_lexer.proofs.cutter.Cutter.finish.Goals as goal

@@ -1,5 +1,5 @@
 -- The goals of `push` that need an answer.
-use Rattle.std.proofs.Common.{rules, ◌≡◌, ◌∙◌, ◌++◌, List, ◌∷◌, [], length, ap}
+use Rattle.std.proofs.Common.{rules, ◌≡◌, ◌∙◌, ◌++◌, List, ◌∷◌, [], ap}
 use Rattle.species_ast.specs.Token as ast
 use Rattle.species_lexer.specs.Tokens.{seen_token}
 use Rattle.species_lexer.specs.Entries.{Table, others_of}
