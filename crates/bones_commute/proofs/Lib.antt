@@ -5,6 +5,7 @@ mod Even
 mod JoinedLaws
 mod JoinedTraces
 mod NestPlays
+mod OrderlyExample
 mod Orders
 mod Past
 mod PlayExamples
