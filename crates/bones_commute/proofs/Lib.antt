@@ -10,6 +10,7 @@ mod Orders
 mod Past
 mod PlayExamples
 mod PlayLaws
+mod SortLaws
 mod Steps
 mod SwapLaws
 mod UnitLaws

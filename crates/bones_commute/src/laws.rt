@@ -3,6 +3,7 @@
 ghost use Rattle.bones_commute.specs.Joined.{JoinedNestsRun};
 ghost use Rattle.bones_commute.specs.Laws.{AllStartsFollow, AllStepsFollow, AllStatesGoOn, AllEndsAreEqual, AllSwap};
 ghost use Rattle.bones_commute.specs.Orderly.{OrderlyUnitsPlay, EveryInterleaving};
+ghost use Rattle.bones_commute.specs.Sorts.{SortsGather, SortsTrade, SortsKeepValues, SortedUnitsPlay};
 
 /// Where the scripts of a nest's iterations fit its arrays and are apart, the nest begins in a state
 /// that follows them, each step keeps to them, and no iteration is ever stuck or faults.
@@ -33,4 +34,13 @@ pub fn law_joined()
 /// Two actions on different elements, two reads, and two additions do the same in either order.
 pub fn law_swap()
     ensures { AllSwap }
+{}
+
+/// Whether an array gathers sums, least or greatest values, the order in which values are joined does
+/// not matter, and with any list of sorts the plays of an orderly unit end in the arrays of its run.
+pub fn law_sorts()
+    ensures gathers { SortsGather }
+    ensures trades { SortsTrade }
+    ensures keeps { SortsKeepValues }
+    ensures plays { SortedUnitsPlay }
 {}
