@@ -1,8 +1,13 @@
 mod Apart
+mod ApartBack
+mod BareLaws
 mod CountLaws
 mod Elements
 mod Even
+mod JoinedBodies
 mod JoinedLaws
+mod JoinedNests
+mod JoinedPlaces
 mod JoinedTraces
 mod NestPlays
 mod OrderlyExample

@@ -1,4 +1,5 @@
 pub mod Joined
+pub mod JoinedNests
 pub mod Laws
 pub mod Orderly
 pub mod Scripts

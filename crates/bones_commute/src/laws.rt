@@ -1,6 +1,7 @@
 //! The laws of interleavings.
 
 ghost use Rattle.bones_commute.specs.Joined.{JoinedNestsRun};
+ghost use Rattle.bones_commute.specs.JoinedNests.{JoinedLoopsRun};
 ghost use Rattle.bones_commute.specs.Laws.{AllStartsFollow, AllStepsFollow, AllStatesGoOn, AllEndsAreEqual, AllSwap};
 ghost use Rattle.bones_commute.specs.Orderly.{OrderlyUnitsPlay, EveryInterleaving};
 ghost use Rattle.bones_commute.specs.Sorts.{SortsGather, SortsTrade, SortsKeepValues, SortedUnitsPlay};
@@ -43,4 +44,10 @@ pub fn law_sorts()
     ensures trades { SortsTrade }
     ensures keeps { SortsKeepValues }
     ensures plays { SortedUnitsPlay }
+{}
+
+/// The same of two loops of a unit and the loop whose body is theirs, one after the other: it ends
+/// where they did, and as a parallel nest it is orderly.
+pub fn law_joined_loops()
+    ensures { JoinedLoopsRun }
 {}
