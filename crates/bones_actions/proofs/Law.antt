@@ -60,7 +60,7 @@ run_then t next r more p h k =
     ∙ ap (λ o. and_then o (λ x u. walked (next x) u)) h
     ∙ same_next r (λ x u. walked (next x) u) more k
 
-and_then-assoc : {X Y Z : Type 0} (r : Walked X) (f : X → Tape → Walked Y) (g : Y → Tape → Walked Z) → and_then (and_then r f) g ≡ and_then r (λ x t. and_then (f x t) g)
+pub and_then-assoc : {X Y Z : Type 0} (r : Walked X) (f : X → Tape → Walked Y) (g : Y → Tape → Walked Z) → and_then (and_then r f) g ≡ and_then r (λ x t. and_then (f x t) g)
 and_then-assoc (Ok p) f g = refl
 and_then-assoc (Err why) f g = refl
 

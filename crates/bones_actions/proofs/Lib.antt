@@ -1,1 +1,4 @@
+mod Elements
 mod Law
+mod Loops
+mod Steps

@@ -30,9 +30,12 @@ and_then (Err why) next = Err why
 -- ---- one action
 
 -- the walk ends at a fault
+abbrev pub fault_of : ℕ → Option Action
+fault_of zero = Some Fault
+fault_of (suc d) = None
+
 abbrev pub fault_after : {X : Type 0} → ℕ → Walked X
-fault_after zero = Err (Some Fault)
-fault_after (suc d) = Err None
+fault_after d = Err (fault_of d)
 
 abbrev pub fault : {X : Type 0} → Tape → Walked X
 fault t = fault_after t.done
