@@ -25,7 +25,7 @@ pub fn action_at(
 {
     let mut here = frame.copy(alloc)?;
     let mut tape = Tape::new(answers, done);
-    match walk_scope(unit, body, &mut here, &mut tape, body) {
+    match walk_scope(unit, body, body, &mut here, &mut tape) {
         Ok(()) => Ok(Action::Done),
         Err(Stop::Memory) => Err(OutOfMemory),
         Err(Stop::At(Some(action))) => Ok(action),

@@ -1,5 +1,5 @@
 //! Walks through statements.
-ghost use Rattle.std.specs.Prelude.{◌≡◌, OnOk};
+ghost use Rattle.std.specs.Prelude.{◌≡◌, OnOk, true, false};
 ghost use Rattle.species_ast.specs.declared.tree.Kind.TheVariants as kind;
 ghost use Rattle.species_ast.specs.Operators.{reduced, number_of, is_signed};
 ghost use Rattle.species_ast.specs.Run.{cleared};
@@ -20,16 +20,16 @@ use species_cint::{binary, convert, number};
 #[cycle(walk)]
 fn walk_all(
     unit: &Unit,
+    all: &[Stmt],
     whole: &[Stmt],
     frame: &mut Frame,
     tape: &mut Tape<'_>,
-    all: &[Stmt],
 ) -> Result<(), Stop>
     ensures walks { Walks result frame.new tape.new (effects (context unit.now whole.now) all.now frame.old tape.old) }
     ensures iters { OnOk result (frame.new.iters ≡ frame.old.iters) }
 {
     for s in all {
-        walk_one(unit, whole, frame, tape, s)?;
+        walk_one(unit, s, whole, frame, tape)?;
     }
     Ok(())
 }
@@ -38,15 +38,15 @@ fn walk_all(
 #[cycle(walk)]
 pub(crate) fn walk_scope(
     unit: &Unit,
+    all: &[Stmt],
     whole: &[Stmt],
     frame: &mut Frame,
     tape: &mut Tape<'_>,
-    all: &[Stmt],
 ) -> Result<(), Stop>
     ensures walks { Walks result frame.new tape.new (scope_effect (context unit.now whole.now) all.now frame.old tape.old) }
     ensures iters { OnOk result (frame.new.iters ≡ frame.old.iters) }
 {
-    walk_all(unit, whole, frame, tape, all)?;
+    walk_all(unit, all, whole, frame, tape)?;
     clear(unit, whole, frame, all);
     Ok(())
 }
@@ -80,10 +80,10 @@ fn clear_one(_unit: &Unit, _whole: &[Stmt], frame: &mut Frame, s: &Stmt)
 #[cycle(walk)]
 fn walk_one(
     unit: &Unit,
+    s: &Stmt,
     whole: &[Stmt],
     frame: &mut Frame,
     tape: &mut Tape<'_>,
-    s: &Stmt,
 ) -> Result<(), Stop>
     ensures walks { Walks result frame.new tape.new (effect (context unit.now whole.now) s.now frame.old tape.old) }
     ensures iters { OnOk result (frame.new.iters ≡ frame.old.iters) }
@@ -130,24 +130,24 @@ fn walk_one(
             Err(why) => Err(Stop::At(why)),
             Ok(v) => {
                 if is_true(v) {
-                    walk_scope(unit, whole, frame, tape, body.as_slice())
+                    walk_scope(unit, body.as_slice(), whole, frame, tape)
                 } else {
-                    walk_scope(unit, whole, frame, tape, otherwise.as_slice())
+                    walk_scope(unit, otherwise.as_slice(), whole, frame, tape)
                 }
             }
         },
-        Stmt::For(head) => walk_loop(unit, whole, frame, tape, head),
-        Stmt::Block(body) => walk_scope(unit, whole, frame, tape, body.as_slice()),
+        Stmt::For(head) => walk_loop(unit, head, whole, frame, tape),
+        Stmt::Block(body) => walk_scope(unit, body.as_slice(), whole, frame, tape),
     }
 }
 
 #[cycle(walk)]
 fn walk_loop(
     unit: &Unit,
+    head: &Loop,
     whole: &[Stmt],
     frame: &mut Frame,
     tape: &mut Tape<'_>,
-    head: &Loop,
 ) -> Result<(), Stop>
     ensures walks { Walks result frame.new tape.new (loop_effect (context unit.now whole.now) head.now frame.old tape.old) }
     ensures iters { OnOk result (frame.new.iters ≡ frame.old.iters) }
@@ -156,7 +156,7 @@ fn walk_loop(
         Err(why) => Err(Stop::At(why)),
         Ok(start) => match eval(unit, frame, tape, &head.limit) {
             Err(why) => Err(Stop::At(why)),
-            Ok(limit) => walk_turns(unit, whole, frame, tape, head, bound(start), bound(limit)),
+            Ok(limit) => walk_turns(unit, head, whole, frame, tape, bound(start), bound(limit)),
         },
     }
 }
@@ -176,10 +176,10 @@ fn bound(v: Value) -> i32
 #[cycle(walk)]
 fn walk_turns(
     unit: &Unit,
+    head: &Loop,
     whole: &[Stmt],
     frame: &mut Frame,
     tape: &mut Tape<'_>,
-    head: &Loop,
     start: i32,
     limit: i32,
 ) -> Result<(), Stop>
@@ -188,7 +188,7 @@ fn walk_turns(
 {
     let mut at = start;
     while has_turn(head.test, at, limit, head.step) {
-        walk_turn(unit, whole, frame, tape, head, at)?;
+        walk_turn(unit, head, whole, frame, tape, at)?;
         match at.checked_add(head.step) {
             None => return Ok(()),
             Some(next) => at = next,
@@ -200,17 +200,17 @@ fn walk_turns(
 #[cycle(walk)]
 fn walk_turn(
     unit: &Unit,
+    head: &Loop,
     whole: &[Stmt],
     frame: &mut Frame,
     tape: &mut Tape<'_>,
-    head: &Loop,
     at: i32,
 ) -> Result<(), Stop>
     ensures walks { Walks result frame.new tape.new (turn_effect (context unit.now whole.now) head.now at frame.old tape.old) }
     ensures iters { OnOk result (frame.new.iters ≡ frame.old.iters) }
 {
     frame.enter(at)?;
-    walk_scope(unit, whole, frame, tape, head.body.as_slice())?;
+    walk_scope(unit, head.body.as_slice(), whole, frame, tape)?;
     frame.leave();
     Ok(())
 }
