@@ -1,6 +1,7 @@
 -- How walks through statements go on.
-use Rattle.std.proofs.Common.{◌≡◌, refl, ap, sym, ◌∙◌, arith, w32, ℕ, ◌-◌, ◌<◌, [], length, take, Option, Some, None, true, false, Result, Ok, Err, ℤ, ◌+ℤ◌}
+use Rattle.std.proofs.Common.{◌≡◌, refl, ap, sym, ◌∙◌, subst, arith, w32, ℕ, ◌-◌, ◌<◌, [], length, take, Option, Some, None, true, false, Result, Ok, Err, ℤ, ◌+ℤ◌}
 use Rattle.std.specs.Prelude.{FitsSigned}
+use Rattle.species_ast.specs.declared.action.Action.{Action}
 use Rattle.species_ast.specs.declared.tree.Value.{Value}
 use Rattle.species_ast.specs.declared.tree.Expr.{Expr}
 use Rattle.species_ast.specs.declared.tree.Loop.{Loop, out-Loop}
@@ -71,3 +72,7 @@ shorter l at next limit h step =
     let longer = ap length (turn_first (out-Loop l).test at limit (out-Loop l).step h) in
     let same = ap (λ k. length (iterator_values (out-Loop l).test k limit (out-Loop l).step)) step in
     omega (arith, longer, same)
+
+-- what a call tells that ended at an action, or past the last
+pub walks_at : (e : Stop) (why : Option Action) (f : Frame) (t : Tape) (o : Walked Frame) → Walks (failed e) f t o → e ≡ stop.At why → o ≡ Err why
+walks_at e why f t o h is = subst (λ z. Walks (failed z) f t o) is h
