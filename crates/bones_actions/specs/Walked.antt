@@ -193,4 +193,3 @@ turn_effect w l at f t = and_then (scope_effect w (out-Loop l).body (inside f at
 
 abbrev pub turns_effect : Context → Loop → ℤ → ℤ → Effect
 turns_effect w l start limit = turns_done (iterator_values (out-Loop l).test start limit (out-Loop l).step) (scope_effect w (out-Loop l).body)
-

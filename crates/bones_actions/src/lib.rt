@@ -15,3 +15,6 @@ mod tape;
 
 pub use frame::Frame;
 pub use next::action_at;
+
+#[cfg(test)]
+mod tests;

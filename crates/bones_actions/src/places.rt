@@ -30,9 +30,7 @@ pub(crate) fn next(sizes: &[u32], place: Option<u32>, v: Value) -> Option<u32>
             None => None,
             Some(at) => match index_in(*size, v) {
                 None => None,
-                Some(i) => Some(
-                    at.saturating_mul(*size).saturating_add(i),
-                ),
+                Some(i) => Some(at.saturating_mul(*size).saturating_add(i)),
             },
         },
     }
