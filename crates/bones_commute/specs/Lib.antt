@@ -1,7 +1,9 @@
 pub mod Joined
+pub mod JoinedNests
 pub mod Laws
 pub mod Orderly
 pub mod Scripts
 pub mod ScriptsOfRuns
+pub mod Sorts
 pub mod Swaps
 pub mod Trades

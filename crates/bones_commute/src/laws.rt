@@ -1,8 +1,10 @@
 //! The laws of interleavings.
 
 ghost use Rattle.bones_commute.specs.Joined.{JoinedNestsRun};
+ghost use Rattle.bones_commute.specs.JoinedNests.{JoinedLoopsRun};
 ghost use Rattle.bones_commute.specs.Laws.{AllStartsFollow, AllStepsFollow, AllStatesGoOn, AllEndsAreEqual, AllSwap};
 ghost use Rattle.bones_commute.specs.Orderly.{OrderlyUnitsPlay, EveryInterleaving};
+ghost use Rattle.bones_commute.specs.Sorts.{SortsGather, SortsTrade, SortsKeepValues, SortedUnitsPlay};
 
 /// Where the scripts of a nest's iterations fit its arrays and are apart, the nest begins in a state
 /// that follows them, each step keeps to them, and no iteration is ever stuck or faults.
@@ -33,4 +35,19 @@ pub fn law_joined()
 /// Two actions on different elements, two reads, and two additions do the same in either order.
 pub fn law_swap()
     ensures { AllSwap }
+{}
+
+/// Whether an array gathers sums, least or greatest values, the order in which values are joined does
+/// not matter, and with any list of sorts the plays of an orderly unit end in the arrays of its run.
+pub fn law_sorts()
+    ensures gathers { SortsGather }
+    ensures trades { SortsTrade }
+    ensures keeps { SortsKeepValues }
+    ensures plays { SortedUnitsPlay }
+{}
+
+/// The same of two loops of a unit and the loop whose body is theirs, one after the other: it ends
+/// where they did, and as a parallel nest it is orderly.
+pub fn law_joined_loops()
+    ensures { JoinedLoopsRun }
 {}

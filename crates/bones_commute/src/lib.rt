@@ -3,4 +3,4 @@
 
 mod laws;
 
-pub use laws::{law_end, law_joined, law_plays, law_step, law_swap};
+pub use laws::{law_end, law_joined, law_joined_loops, law_plays, law_sorts, law_step, law_swap};

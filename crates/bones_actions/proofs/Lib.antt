@@ -1,0 +1,5 @@
+mod Elements
+mod Law
+mod Loops
+mod NextLaws
+mod Steps
