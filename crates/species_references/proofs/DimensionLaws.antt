@@ -1,10 +1,11 @@
 -- Dimensions and references that are collected one after another.
-use Rattle.std.proofs.Common.{◌≡◌, refl, ap, sym, ◌∙◌, subst, arith, ℕ, zero, suc, ◌+◌, ◌<◌, ◌≤◌, Bool, List, [], ◌∷◌, ◌++◌, map, length, take, take_all, length-map, length-append, get_or, All}
+use Rattle.std.proofs.Common.{◌≡◌, refl, ap, sym, ◌∙◌, subst, arith, ℕ, zero, suc, ◌+◌, ◌<◌, ◌≤◌, append-nil, false, List, [], ◌∷◌, ◌++◌, map, length, take, take_all, length-append, get_or, All}
 use Rattle.std.specs.Prelude.{slice_index_or, Option}
-use Rattle.std.proofs.lemmas.List.{take_more}
+use Rattle.std.proofs.lemmas.List.{take_more, length-map}
 use Rattle.species_arcs.specs.Pairwise.{Pairwise}
 use Rattle.species_arcs.specs.declared.spans.Span.{Span}
 use Rattle.species_ast.specs.declared.tree.Expr.{Expr}
+use Rattle.species_ast.specs.declared.tree.Loop.{Loop}
 use Rattle.species_ast.specs.Scope.Forms.{Form, form_of}
 use Rattle.species_ast.specs.Scope.Hulls.{Range}
 use Rattle.species_ast.specs.Scope.References as text
@@ -15,8 +16,9 @@ use Rattle.species_references.specs.declared.nest.Reference.{Reference}
 use Rattle.species_references.specs.declared.occurrences.Occurrence.{Occurrence}
 use Rattle.species_references.specs.Boxes.{IsBoxIn, AreBoxes}
 use Rattle.species_references.specs.References.{IsReference, AreNumberedFrom}
-use Rattle.species_references.specs.Occurrences.{seen, all_seen}
-use Rattle.species_references.proofs.SeenLaws.{map_append}
+use Rattle.species_references.specs.Ranges.{ranges_in_loop}
+use Rattle.species_references.specs.Occurrences.{seen, all_seen, seen_in_loop, Collected}
+use Rattle.species_references.proofs.SeenLaws.{map_append, nest_anywhere}
 
 pair_more : {X Y : Type 0} (R : X → Y → Type 0) (xs : List X) (ys : List Y) (x : X) (y : Y) → Pairwise R xs ys → R x y → Pairwise R (xs ++ x ∷ []) (ys ++ y ∷ [])
 pair_more R [] [] x y h r = (r, tt)
@@ -67,7 +69,7 @@ pub next_dimension : (exprs : List Expr) (inner : ℕ) (path : List Range) (size
     → AreDimensions exprs inner path sizes i subs boxes → AreDimensions exprs inner path sizes (i + 1) more_subs more_boxes
 next_dimension exprs inner path sizes i d subs more_subs boxes more_boxes s x below p q form numbers box so =
     let forms = map form_of (take i exprs) in
-    let many : length forms ≡ i = length-map form_of (take i exprs) ∙ taken_length exprs i (omega (arith, below)) in
+    let many : length forms ≡ i = length-map (take i exprs) form_of ∙ taken_length exprs i (omega (arith, below)) in
     let more : map form_of (take (i + 1) exprs) ≡ forms ++ form_of (get_or exprs i d) ∷ [] = forms_more exprs i d below in
     record {
       subs_are = subst (λ us. Pairwise IsSubscript us (map form_of (take (i + 1) exprs))) (sym p)
@@ -77,6 +79,14 @@ next_dimension exprs inner path sizes i d subs more_subs boxes more_boxes s x be
           (subst (λ os. AreBoxes inner path sizes os (boxes ++ x ∷ [])) (sym more)
           (boxes_more inner path sizes forms boxes (form_of (get_or exprs i d)) x so.boxes_are (subst (λ n. IsBoxIn inner path (slice_index_or sizes n 0) (form_of (get_or exprs i d)) x) (sym many) box)));
     }
+
+-- one dimension more, of the expression at its place
+pub dimension_more : (exprs : List Expr) (inner : ℕ) (path : List Range) (sizes : List ℕ) (i : ℕ) (e : Expr) (subs more_subs : List Subscript) (boxes more_boxes : List Span) (s : Subscript) (x : Span) (size : ℕ) → i < length exprs
+    → e ≡ get_or exprs i e → more_subs ≡ subs ++ s ∷ [] → more_boxes ≡ boxes ++ x ∷ [] → IsSubscript s (form_of e) → HasFormNumbers s → size ≡ slice_index_or sizes i 0 → ((o : Option Form) → IsSubscript s o → IsBoxIn inner path size o x)
+    → AreDimensions exprs inner path sizes i subs boxes → AreDimensions exprs inner path sizes (i + 1) more_subs more_boxes
+dimension_more exprs inner path sizes i e subs more_subs boxes more_boxes s x size below at p q form numbers n box so =
+    next_dimension exprs inner path sizes i e subs more_subs boxes more_boxes s x below p q (subst (λ y. IsSubscript s (form_of y)) at form) numbers
+    (subst (λ m. IsBoxIn inner path m (form_of (get_or exprs i e)) x) n (box (form_of (get_or exprs i e)) (subst (λ y. IsSubscript s (form_of y)) at form))) so
 
 pub all_dimensions : (exprs : List Expr) (inner : ℕ) (path : List Range) (sizes : List ℕ) (i : ℕ) (subs : List Subscript) (boxes : List Span) → length exprs ≤ i → AreDimensions exprs inner path sizes i subs boxes
     → Pairwise IsSubscript subs (map form_of exprs) × All HasFormNumbers subs × AreBoxes inner path sizes (map form_of exprs) boxes
@@ -137,3 +147,17 @@ all_placed sizes inner [] [] h = tt
 all_placed sizes inner [] (q ∷ qs) h = absurd h
 all_placed sizes inner (r ∷ rs) [] h = absurd h
 all_placed sizes inner (r ∷ rs) (q ∷ qs) h = (placed_again sizes inner r q h.0, all_placed sizes inner rs qs h.1)
+
+-- ---- the references of a nest
+
+pub nest_seen : (adds : text.Adding) (head : Loop) (at : List ℕ) (path ranges rest : List Range) (depth : ℕ) (old new : List text.Reference) → ranges ≡ ranges_in_loop head path → old ≡ []
+    → Collected ranges (ranges_in_loop head path) rest old (seen_in_loop adds head path false depth) new → new ≡ map unplaced (text.references_of adds head at path depth)
+nest_seen adds head at path ranges rest depth old new e none h =
+    (h [] (e ∙ sym (append-nil (ranges_in_loop head path)))).1 ∙ ap (λ l. l ++ seen_in_loop adds head path false depth) none ∙ sym (nest_anywhere adds head at path depth)
+
+pub seen_length : (os : List Occurrence) (qs : List text.Reference) → all_seen os ≡ map unplaced qs → length os ≡ length qs
+seen_length os qs h = sym (length-map os seen) ∙ ap length h ∙ length-map qs unplaced
+
+pub resolved_placed : (sizes : ℕ → List ℕ) (inner : ℕ) (rs : List Reference) (os : List Occurrence) (qs : List text.Reference) → all_seen os ≡ map unplaced qs → Pairwise (IsReference sizes inner) rs (all_seen os)
+    → Pairwise (IsReference sizes inner) rs qs
+resolved_placed sizes inner rs os qs e h = all_placed sizes inner rs qs (subst (λ l. Pairwise (IsReference sizes inner) rs l) e h)

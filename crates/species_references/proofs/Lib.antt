@@ -5,3 +5,6 @@ mod LevelLaws
 mod ExtentLaws
 mod DimensionLaws
 mod BoxLaws
+mod GroupLaws
+mod Examples
+mod TurnLaws

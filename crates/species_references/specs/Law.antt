@@ -1,10 +1,12 @@
--- What boxes are: all that the iterators of the inner loops add to an index, and its ends are reached.
-use Rattle.std.specs.Prelude.{◌≡◌, false, List, take, drop, length, ℤ, ◌-ℤ◌, ◌++◌}
+-- What boxes are: all that the iterators of the inner loops add to an index, and its ends are reached. Each reference has boxes
+-- that are not empty.
+use Rattle.std.specs.Prelude.{◌≡◌, ℕ, ◌+◌, false, List, take, drop, length, ℤ, ◌-ℤ◌, ◌++◌, All}
 use Rattle.species_arcs.specs.Spans.{IsInSpan}
 use Rattle.species_arcs.specs.declared.spans.Span.{Span}
 use Rattle.species_ast.specs.declared.tree.Loop.{Loop}
 use Rattle.species_ast.specs.Scope.Forms.{Form, form_value, sum_of}
 use Rattle.species_ast.specs.Scope.Hulls.{Range, AreIn, has_empty}
+use Rattle.species_ast.specs.Scope.References.{Reference, Adding, references_of}
 use Rattle.species_linear.specs.Box.{IsLeastOver, IsGreatestOver}
 use Rattle.species_occurrences.specs.Iterators.{AreTaken, ranges_of}
 use Rattle.species_references.specs.Boxes.{inner_part, IsBoxOf}
@@ -19,3 +21,11 @@ BoxesHoldIndices = (path : List Range) (inner : List Loop) (f : Form) (x : Span)
 abbrev pub BoxesAreExtremes : Type 0
 BoxesAreExtremes = (path inner : List Range) (f : Form) (x : Span) → has_empty inner ≡ false → IsBoxOf (length path) (path ++ inner) f x
     → IsLeastOver (AreIn inner) (form_value (inner_part (length path) f)) x.low × IsGreatestOver (AreIn inner) (form_value (inner_part (length path) f)) x.high
+
+-- no range of a loop around the reference from this level on is empty
+abbrev pub HasTurns : ℕ → Reference → Type 0
+HasTurns inner q = has_empty (drop inner q.path) ≡ false
+
+-- No reference of a nest stands in an inner loop whose range is empty.
+abbrev pub ReferencesHaveTurns : Type 0
+ReferencesHaveTurns = (adds : Adding) (head : Loop) (at : List ℕ) (path : List Range) (depth : ℕ) → All (HasTurns (length path + depth)) (references_of adds head at path depth)

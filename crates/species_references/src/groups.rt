@@ -70,10 +70,11 @@ fn groups_of(alloc: Global, refs: &[Reference]) -> Result<Vec<ArrayPlaces>, OutO
     let mut groups = Vec::new(alloc);
     for reference in refs {
         let array = reference.array;
-        if !has_group(groups.as_slice(), array) {
-            let places = places_of(alloc, refs, array)?;
-            groups.push(ArrayPlaces { array, places })?;
+        if has_group(groups.as_slice(), array) {
+            continue;
         }
+        let places = places_of(alloc, refs, array)?;
+        groups.push(ArrayPlaces { array, places })?;
     }
     Ok(groups)
 }
@@ -81,7 +82,12 @@ fn groups_of(alloc: Global, refs: &[Reference]) -> Result<Vec<ArrayPlaces>, OutO
 fn has_group(groups: &[ArrayPlaces], array: u32) -> bool
     ensures { IsTrue result ↔ HasGroup groups.now array }
 {
-    groups.iter().any(|group| group.array == array)
+    for group in groups {
+        if group.array == array {
+            return true;
+        }
+    }
+    false
 }
 
 /// The places of the references to an array.
