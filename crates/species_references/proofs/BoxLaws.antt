@@ -1,6 +1,6 @@
 -- What the iterators of inner loops add to an index lies in its box, in steps of its stride.
-use Rattle.std.proofs.Common.{◌≡◌, refl, ap, sym, ◌∙◌, subst, arith, ℕ, zero, suc, ◌*◌, ◌/◌, Bool, true, false, ◌&&◌, nat_eq, if◌then◌else◌, List, [], ◌∷◌, ◌++◌, length, take, drop, append_assoc, append-nil, ℤ, pos, negsuc, ◌+ℤ◌, ◌-ℤ◌, ◌*ℤ◌, ◌≤ℤ◌, Some, None, All}
-use Rattle.std.specs.Prelude.{int_lt, int_le, is_some}
+use Rattle.std.proofs.Common.{◌≡◌, refl, ap, sym, ◌∙◌, subst, arith, ℕ, zero, suc, ◌*◌, ◌/◌, Bool, true, false, ◌&&◌, nat_eq, if◌then◌else◌, List, [], ◌∷◌, ◌++◌, length, take, drop, append_assoc, append-nil, ℤ, pos, negsuc, ◌+ℤ◌, ◌-ℤ◌, ◌*ℤ◌, ◌≤ℤ◌, Some, All}
+use Rattle.std.specs.Prelude.{int_le, is_some}
 use Rattle.std.specs.Int.{◌∣◌}
 use Rattle.std.specs.Int.RustNames.{unsigned_abs}
 use Rattle.std.specs.Ordering.{int_eq}
@@ -15,7 +15,6 @@ use Rattle.species_ast.specs.declared.tree.Loop.{Loop, out-Loop}
 use Rattle.species_ast.specs.Scope.Forms.{Form, is_constant, form_value, sum_of}
 use Rattle.species_ast.specs.Scope.Hulls.{Range, AreIn, has_empty, least_product, least_sum, least_of, greatest_of, last_value, last_form, bound_form, start_constant, fixed_range, wide_range, no_range, range_between, range_of}
 use Rattle.species_ast.proofs.HullLaws.{least_of-below, greatest_of-above, least_of-attained, greatest_of-attained}
-use Rattle.species_linear.specs.Box.{IsLeastOver, IsGreatestOver}
 use Rattle.species_occurrences.specs.Iterators.{IsCounted, MayTake, AreTaken, ranges_of}
 use Rattle.species_occurrences.proofs.TakenLaws.{taken_in}
 use Rattle.species_references.specs.Boxes.{inner_part, has_constant_bounds, unit_of, gap_of, gaps_of, IsStrideOf, IsBoxOf}
@@ -182,12 +181,11 @@ inner_in_box : (inner : ℕ) (path more : List Range) (f : Form) (x : Span) (is 
 inner_in_box inner path more f x is e b inside on =
     let g = inner_part inner f in
     let low : x.low ≡ f.constant +ℤ least_sum g.coefficients more = b.low ∙ ap (λ p. f.constant +ℤ least_sum g.coefficients p) e in
-    let way : form_value g is -ℤ x.low ≡ sum_of g.coefficients is -ℤ least_sum g.coefficients more = omega (arith, ints, low) in
-    (
+    let way : form_value g is -ℤ x.low ≡ sum_of g.coefficients is -ℤ least_sum g.coefficients more = omega (arith, ints, low) in (
       omega (arith, ints, low, least_of-below more g is inside),
       omega (arith, ints, b.high ∙ ap (λ p. greatest_of p g) e, greatest_of-above more g is inside),
       stride_divides (gaps_of g.coefficients (drop inner path)) x.stride (unsigned_abs (form_value g is -ℤ x.low)) b.stride
-      (λ d h. subst (λ z. d ∣ unsigned_abs z) (sym way) (sum_divisible d g.coefficients more is (subst (λ p. All (λ m. d ∣ m) (gaps_of g.coefficients p)) e h) inside on)),
+          (λ d h. subst (λ z. d ∣ unsigned_abs z) (sym way) (sum_divisible d g.coefficients more is (subst (λ p. All (λ m. d ∣ m) (gaps_of g.coefficients p)) e h) inside on)),
     )
 
 pub boxes_hold : BoxesHoldIndices
@@ -207,8 +205,7 @@ boxes_extreme path inner f x full b =
     let low : x.low ≡ least_of inner g = b.low ∙ ap (λ p. least_of p g) e in
     let high : x.high ≡ greatest_of inner g = b.high ∙ ap (λ p. greatest_of p g) e in
     let first = least_of-attained inner g full in
-    let last = greatest_of-attained inner g full in
-    (
+    let last = greatest_of-attained inner g full in (
       ((λ is h. omega (arith, ints, low, least_of-below inner g is h)), (first.0, first.1, first.2 ∙ sym low)),
       ((λ is h. omega (arith, ints, high, greatest_of-above inner g is h)), (last.0, last.1, last.2 ∙ sym high)),
     )

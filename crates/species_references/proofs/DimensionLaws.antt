@@ -91,8 +91,7 @@ dimension_more exprs inner path sizes i e subs more_subs boxes more_boxes s x si
 pub all_dimensions : (exprs : List Expr) (inner : ℕ) (path : List Range) (sizes : List ℕ) (i : ℕ) (subs : List Subscript) (boxes : List Span) → length exprs ≤ i → AreDimensions exprs inner path sizes i subs boxes
     → Pairwise IsSubscript subs (map form_of exprs) × All HasFormNumbers subs × AreBoxes inner path sizes (map form_of exprs) boxes
 all_dimensions exprs inner path sizes i subs boxes past so =
-    let whole : take i exprs ≡ exprs = take_all i exprs past in
-    (
+    let whole : take i exprs ≡ exprs = take_all i exprs past in (
       subst (λ es. Pairwise IsSubscript subs (map form_of es)) whole so.subs_are,
       so.numbers_are,
       subst (λ es. AreBoxes inner path sizes (map form_of es) boxes) whole so.boxes_are,

@@ -1,5 +1,5 @@
 -- The extent of a form's inner terms on the way, term by term.
-use Rattle.std.proofs.Common.{◌≡◌, refl, ap, sym, ◌∙◌, subst, arith, ℕ, zero, suc, ◌+◌, ◌*◌, ◌^◌, ◌<◌, ◌≤◌, nat_eq, if◌then◌else◌, List, [], ◌∷◌, length, drop, ℤ, pos, negsuc, ◌+ℤ◌, ◌*ℤ◌, All}
+use Rattle.std.proofs.Common.{◌≡◌, ap, sym, ◌∙◌, subst, arith, ℕ, zero, suc, ◌+◌, ◌*◌, ◌^◌, ◌<◌, ◌≤◌, nat_eq, if◌then◌else◌, List, [], ◌∷◌, length, drop, ℤ, pos, negsuc, ◌+ℤ◌, ◌*ℤ◌}
 use Rattle.std.specs.Prelude.{slice_index_or}
 use Rattle.std.specs.Int.{◌∣◌, IsGcd}
 use Rattle.std.specs.Int.RustNames.{unsigned_abs}
@@ -20,7 +20,7 @@ use Rattle.species_linear.specs.Value.{coefficient_at}
 use Rattle.species_linear.specs.Box.{zero_range}
 use Rattle.species_references.specs.declared.boxes.Extent.{Extent}
 use Rattle.species_references.specs.Ranges.{as_range, as_ranges}
-use Rattle.species_references.specs.Boxes.{gap_of, gaps_of, IsGcdOf, IsStrideOf, IsBoxOf}
+use Rattle.species_references.specs.Boxes.{gap_of, IsBoxOf}
 use Rattle.species_references.proofs.LevelLaws.{levels, DividesLevels, range_in, term_more, gap_more, no_levels, no_gaps, least_nothing, greatest_nothing, least_levels, greatest_levels, gap_levels}
 
 -- the inner levels of loops with these ranges

@@ -1,7 +1,6 @@
 -- Groups of references by array.
-use Rattle.std.proofs.Common.{◌≡◌, ◌≢◌, refl, ap, sym, ◌∙◌, subst, arith, ℕ, zero, suc, ◌+◌, ◌<◌, ◌≤◌, Bool, true, false, nat_eq, if◌then◌else◌, List, [], ◌∷◌, ◌++◌, length, length-append, take, drop, take_all, append_assoc, append-nil, get_or, All, ◌⊎◌, inl, inr}
+use Rattle.std.proofs.Common.{◌≡◌, ◌≢◌, refl, ap, sym, ◌∙◌, subst, arith, ℕ, zero, suc, ◌+◌, ◌<◌, ◌≤◌, Bool, true, false, nat_eq, if◌then◌else◌, List, [], ◌∷◌, ◌++◌, length, length-append, take, drop, take_all, append_assoc, append-nil, get_or, All}
 use Rattle.std.specs.Prelude.{slice_index_or}
-use Rattle.std.specs.List.{Any}
 use Rattle.std.proofs.lemmas.List.{take_more, at_drop_more, at_drop_all}
 use Rattle.std.proofs.lemmas.List.Quantifiers.{Any-push}
 use Rattle.std.proofs.lemmas.Bool.Decides.{nat_tests}
@@ -111,3 +110,11 @@ pub has_none : (groups : List ArrayPlaces) (array i : ℕ) → length groups ≤
 has_none groups array i past others h =
     let all : All (λ g. g.array ≢ array) groups = subst (λ gs. All (λ (g : ArrayPlaces). g.array ≢ array) gs) (take_all i groups past) others in
     all h.0 h.1 h.2 (ap (λ (g : ArrayPlaces). g.array) h.3 ∙ h.4)
+
+-- a reference, as an item of the list
+pub there_more : (refs : List Reference) (i : ℕ) (e : Reference) (groups now : List ArrayPlaces) → i < length refs → e ≡ get_or refs i e → now ≡ groups → HasGroup now e.array → AreGroupsOf refs i groups → AreGroupsOf refs (i + 1) groups
+there_more refs i e groups now below at same h so = group_there refs i e groups below (subst (λ gs. HasGroup gs (get_or refs i e).array) same (subst (λ (z : Reference). HasGroup now z.array) at h)) so
+
+pub push_more : (refs : List Reference) (i : ℕ) (e : Reference) (groups more : List ArrayPlaces) (g : ArrayPlaces) → i < length refs → e ≡ get_or refs i e → more ≡ groups ++ g ∷ [] → g.array ≡ e.array → IsGroupOf refs g
+    → AreGroupsOf refs i groups → AreGroupsOf refs (i + 1) more
+push_more refs i e groups more g below at is array own so = group_more refs i e groups more g below is (array ∙ ap (λ (z : Reference). z.array) at) own so

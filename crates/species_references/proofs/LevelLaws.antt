@@ -1,5 +1,5 @@
 -- The terms of a form in inner loops, one by one and by level.
-use Rattle.std.proofs.Common.{◌≡◌, refl, ap, sym, ◌∙◌, subst, arith, ℕ, zero, suc, ◌+◌, ◌-◌, ◌*◌, ◌^◌, ◌<◌, ◌≤◌, Bool, true, false, nat_eq, if◌then◌else◌, List, [], ◌∷◌, length, drop, ℤ, pos, negsuc, ◌+ℤ◌, ◌*ℤ◌, All}
+use Rattle.std.proofs.Common.{◌≡◌, refl, ap, sym, ◌∙◌, subst, arith, ℕ, zero, suc, ◌+◌, ◌-◌, ◌*◌, ◌<◌, ◌≤◌, Bool, true, false, nat_eq, if◌then◌else◌, List, [], ◌∷◌, drop, ℤ, pos, ◌+ℤ◌, ◌*ℤ◌, All}
 use Rattle.std.specs.Prelude.{slice_index_or, nat_lt}
 use Rattle.std.specs.Int.{◌∣◌}
 use Rattle.std.specs.Int.RustNames.{unsigned_abs}
@@ -8,7 +8,6 @@ use Rattle.std.proofs.lemmas.Int.{ints}
 use Rattle.std.proofs.lemmas.List.{get_or-drop}
 use Rattle.std.proofs.lemmas.Bool.Decides.{nat_tests}
 use Rattle.std.proofs.lemmas.Nat.Gcd.{dvd-zero}
-use Rattle.species_ast.specs.Scope.Forms as text
 use Rattle.species_ast.specs.Scope.Hulls.{Range, least_product, greatest_product, least_sum, greatest_sum}
 use Rattle.species_linear.specs.declared.forms.Term.{Term}
 use Rattle.species_linear.specs.declared.loops.LoopRange.{LoopRange}
@@ -166,8 +165,7 @@ pub gap_more : (d : ℕ) (t : Term) (ts : List Term) (inner k : ℕ) (path : Lis
     → DividesLevels d (coefficient_at (t ∷ ts)) inner (drop inner (as_ranges path)))
 gap_more d t ts inner k path rising =
     let both = gap_one_more d t.level inner t.coefficient (coefficient_at ts) (drop inner (as_ranges path)) (coefficient_before (t.level + 1) t.level ts rising.2 (omega arith)) in
-    let is = hit_is 0 gap_of inner t.level t.coefficient path (gap_single t.coefficient) in
-    (
+    let is = hit_is 0 gap_of inner t.level t.coefficient path (gap_single t.coefficient) in (
       (λ p. let q = both.0 p in (subst (λ m. d ∣ m) is q.0, q.1)),
       (λ p. both.1 (subst (λ m. d ∣ m) (sym is) p.0, p.1)),
     )
@@ -258,8 +256,7 @@ gaps_are d [] (suc n) path = ((λ p k e below. absurd (omega (arith, below))), (
 gaps_are d (c ∷ cs) zero [] = ((λ p k e below. absurd (omega (arith, below))), (λ p. tt))
 gaps_are d (c ∷ cs) zero (r ∷ path) =
     let later = gaps_later d c cs zero path in
-    let more = gaps_are d cs zero path in
-    (
+    let more = gaps_are d cs zero path in (
       (λ p. all_first (λ n. d ∣ n) (gap_of c r) (gaps_of cs path) p.0 (more.0 (later.0 p.1))),
       (λ p. (p 0 0 (omega arith), later.1 (more.1 (λ k e below. p (suc k) e (omega (arith, below)))))),
     )

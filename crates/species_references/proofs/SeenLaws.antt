@@ -1,5 +1,5 @@
 -- What each expression and each statement shows, wherever it stands.
-use Rattle.std.proofs.Common.{◌≡◌, refl, ap, sym, ◌∙◌, ℕ, zero, suc, ◌+◌, ◌-◌, Bool, true, false, if◌then◌else◌, List, [], ◌∷◌, ◌++◌, map, length, Option, Some, None}
+use Rattle.std.proofs.Common.{◌≡◌, refl, ap, ◌∙◌, ℕ, zero, suc, ◌+◌, ◌-◌, Bool, true, false, if◌then◌else◌, List, [], ◌∷◌, ◌++◌, map, length, Option, Some, None}
 use Rattle.species_ast.specs.declared.tree.Binary.{Binary}
 use Rattle.species_ast.specs.declared.tree.Expr.{Expr}
 use Rattle.species_ast.specs.declared.tree.Expr.TheVariants as expr
@@ -12,7 +12,7 @@ use Rattle.species_ast.specs.declared.tree.Value.{Value}
 use Rattle.species_ast.specs.Accesses.{Direction, Reads, Writes, Adds}
 use Rattle.species_ast.specs.Scope.Forms.{form_of}
 use Rattle.species_ast.specs.Scope.Hulls.{Range, has_empty, range_of}
-use Rattle.species_ast.specs.Scope.References.{Where, Reference, reference, perhaps, in_turn, Elements, then_elements, on_condition, all_elements, element_with, elements_at, elements_of, subscripts, target_reference, value_references, addition_references, init_references, Adding, list_references, references_at, references_inside, stmt_references, references_of, unless_empty}
+use Rattle.species_ast.specs.Scope.References.{Where, Reference, reference, in_turn, Elements, all_elements, elements_at, elements_of, subscripts, target_reference, value_references, addition_references, init_references, Adding, list_references, references_at, references_inside, stmt_references, references_of, unless_empty}
 use Rattle.species_ast.proofs.Folds.{fold_stmt-Assign, fold_stmt-AddTo, fold_stmt-Declare, fold_stmt-SetLocal, fold_stmt-If, fold_stmt-For, fold_stmt-Block, fold_loop-out}
 use Rattle.species_ast.proofs.Paras.{para_expr-Literal, para_expr-Iter, para_expr-Local, para_expr-Unary, para_expr-Binary, para_expr-And, para_expr-Or, para_expr-Cond, para_expr-Cast}
 use Rattle.species_ast.proofs.ReferenceLaws.{elements_of-Elem}

@@ -1,12 +1,12 @@
 -- Elements of statements that are collected one part after another, and the ranges that are left.
-use Rattle.std.proofs.Common.{◌≡◌, refl, ap, sym, ◌∙◌, subst, arith, ℕ, zero, suc, ◌+◌, ◌-◌, ◌<◌, ◌≤◌, Bool, true, false, ◌&&◌, nat_eq, if◌then◌else◌, Option, Some, None, List, [], ◌∷◌, ◌++◌, map, length, append_assoc, append-nil, take, drop, take_all, get_or}
+use Rattle.std.proofs.Common.{◌≡◌, refl, ap, sym, ◌∙◌, subst, arith, ℕ, zero, suc, ◌+◌, ◌-◌, ◌<◌, ◌≤◌, Bool, true, false, ◌&&◌, nat_eq, if◌then◌else◌, Option, List, [], ◌∷◌, ◌++◌, map, length, append_assoc, append-nil, take, drop, take_all, get_or}
 use Rattle.std.proofs.lemmas.List.{take_more}
 use Rattle.std.proofs.lemmas.Bool.Decides.{nat_tests}
 use Rattle.species_ast.specs.declared.tree.Expr.{Expr}
 use Rattle.species_ast.specs.declared.tree.Stmt.{Stmt}
 use Rattle.species_ast.specs.declared.tree.Stmt.TheVariants as stmt
-use Rattle.species_ast.specs.declared.tree.Loop.{Loop, out-Loop, roll-Loop}
-use Rattle.species_ast.specs.Accesses.{Reads, Writes, Adds}
+use Rattle.species_ast.specs.declared.tree.Loop.{Loop, out-Loop}
+use Rattle.species_ast.specs.Accesses.{Writes}
 use Rattle.species_ast.specs.Scope.Hulls.{Range, has_empty, range_of}
 use Rattle.species_ast.specs.Scope.References.{Reference, Adding}
 use Rattle.species_ast.proofs.Folds.{fold_stmt-Assign, fold_stmt-AddTo, fold_stmt-Declare, fold_stmt-SetLocal, fold_stmt-If, fold_stmt-For, fold_stmt-Block, fold_loop-out}

@@ -1,9 +1,8 @@
 -- Each reference of a nest stands in inner loops whose ranges are not empty.
 use Rattle.std.proofs.Common.{◌≡◌, refl, ap, sym, ◌∙◌, subst, arith, ℕ, zero, suc, ◌+◌, ◌-◌, Bool, true, false, ◌||◌, if◌then◌else◌, List, [], ◌∷◌, ◌++◌, map, length, drop, append_assoc, append-nil, Option, Some, None, All}
 use Rattle.species_ast.specs.declared.tree.Expr.{Expr}
-use Rattle.species_ast.specs.declared.tree.Loop.{Loop, roll-Loop}
+use Rattle.species_ast.specs.declared.tree.Loop.{roll-Loop}
 use Rattle.species_ast.specs.declared.tree.Stmt.{Stmt}
-use Rattle.species_ast.specs.declared.tree.Stmt.TheOpen.{Loop-F}
 use Rattle.species_ast.specs.declared.tree.Stmt.TheVariants as stmt
 use Rattle.species_ast.specs.Accesses.{Direction, Reads, Writes, Adds}
 use Rattle.species_ast.specs.Scope.Forms.{Form, form_of}
@@ -117,11 +116,11 @@ last_full [] r h = go (is_empty r) h
     go : (t : Bool) → (t || false) ≡ false → t ≡ false
     go true k = k
     go false k = k
-last_full (p ∷ path) r h = go (is_empty p) h
+last_full (p ∷ path) r h = go (is_empty p) (last_full path r) h
   where
-    go : (t : Bool) → (t || has_empty (path ++ r ∷ [])) ≡ false → is_empty r ≡ false
-    go true k = absurd cc
-    go false k = last_full path r k
+    go : (t : Bool) → (has_empty (path ++ r ∷ []) ≡ false → is_empty r ≡ false) → (t || has_empty (path ++ r ∷ [])) ≡ false → is_empty r ≡ false
+    go true rest k = absurd cc
+    go false rest k = rest k
 
 below : (path : List Range) (r : Range) (q : Reference) → is_empty r ≡ false → IsBelow (path ++ r ∷ []) 0 q → IsBelow path 0 q
 below path r q full h = (r ∷ h.0, h.1 ∙ append_assoc path (r ∷ []) h.0, ap (λ (t : Bool). t || has_empty h.0) full ∙ h.2)
@@ -163,7 +162,7 @@ stmt_below adds = stmt_ind (IsStmtBelow adds) (record {
 -- ---- the law
 
 drop_more : {X : Type 0} (xs ys : List X) (n : ℕ) → drop (length xs + n) (xs ++ ys) ≡ drop n ys
-drop_more [] ys n = let same : length [] + n ≡ n = omega arith in ap (λ m. drop m ys) same
+drop_more {X} [] ys n = let same : length {A = X} [] + n ≡ n = omega arith in ap (λ m. drop m ys) same
 drop_more (x ∷ xs) ys n = let one : suc (length xs) + n ≡ suc (length xs + n) = omega arith in ap (λ m. drop m (x ∷ (xs ++ ys))) one ∙ drop_more xs ys n
 
 each_has : (path : List Range) (depth : ℕ) (qs : List Reference) → Each (IsBelow path depth) qs → Each (HasTurns (length path + depth)) qs

@@ -1,5 +1,5 @@
 -- What the elements of a nest show of its references before their forms and boxes are found, wherever the nest stands.
-use Rattle.std.specs.Prelude.{◌≡◌, ℕ, zero, true, false, ◌&&◌, nat_eq, Bool, List, [], ◌∷◌, ◌++◌, map, Option, Some, None}
+use Rattle.std.specs.Prelude.{◌≡◌, ℕ, true, false, ◌&&◌, nat_eq, Bool, List, [], ◌∷◌, ◌++◌, map}
 use Rattle.species_ast.specs.declared.tree.Expr.{Expr}
 use Rattle.species_ast.specs.declared.tree.Stmt.{Stmt}
 use Rattle.species_ast.specs.declared.tree.Loop.{Loop}

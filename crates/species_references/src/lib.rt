@@ -21,6 +21,5 @@ pub fn law_boxes()
     ensures turns { ReferencesHaveTurns }
 {}
 
-
 #[cfg(test)]
 mod tests;

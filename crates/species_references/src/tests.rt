@@ -1,8 +1,8 @@
 //! References by array, with ample memory.
 
 use super::*;
-use species_ast::OutOfMemory;
 use species_arcs::Dir;
+use species_ast::OutOfMemory;
 use species_linear::Ranges;
 use sqlite_items::Items;
 use std::alloc::Global;

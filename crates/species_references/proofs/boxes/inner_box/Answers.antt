@@ -1,5 +1,4 @@
-use Rattle.std.proofs.Common.{◌≡◌, ◌≤◌, ◌<◌, ◌+◌, ◌*◌, ◌^◌, arith, rules, pos}
-use Rattle.std.specs.Prelude.{slice_index_or}
+use Rattle.std.proofs.Common.{arith, pos}
 use Rattle.species_linear.specs.declared.forms.Term.{Term}
 use Rattle.species_references.proofs.ExtentLaws.{place_below_level, extent_next, extent_all}
 use Rattle.species_references.proofs.boxes.inner_box.Goals as goal

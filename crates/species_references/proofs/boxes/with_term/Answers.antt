@@ -1,6 +1,6 @@
-use Rattle.std.proofs.Common.{◌≡◌, ◌∙◌, ap, ℕ, ℤ, ◌+ℤ◌, ◌≤◌, ◌+◌, ◌^◌, FitsSigned, arith, refl, rules}
+use Rattle.std.proofs.Common.{ap, ℤ, ◌+ℤ◌, ◌≤◌, ◌+◌, ◌^◌, FitsSigned, arith, rules}
 use Rattle.std.proofs.lemmas.Int.{to_z-of_z, fits_signed_from_abs}
-use Rattle.std.specs.Int.{w128, IsGcd}
+use Rattle.std.specs.Int.{w128}
 use Rattle.std.specs.Int.RustNames.{unsigned_abs}
 use Rattle.species_integers.proofs.Sizes.{abs_sum}
 use Rattle.species_references.proofs.boxes.with_term.Goals as goal

@@ -1,4 +1,4 @@
-use Rattle.std.proofs.Common.{◌≡◌, ap, sym, ◌∙◌, arith, rules, ℕ, ◌+◌, [], List, map, length}
+use Rattle.std.proofs.Common.{◌≡◌, ap, ◌∙◌, arith, ◌+◌, [], map, length}
 use Rattle.std.specs.Prelude.{IfOk, Result, Ok, Err}
 use Rattle.species_ast.specs.Evaluation.{sizes_of}
 use Rattle.species_ast.specs.Run.{source_context}

@@ -1,5 +1,5 @@
-use Rattle.std.proofs.Common.{◌≡◌, ◌++◌, ap, ◌∙◌}
-use Rattle.species_references.specs.Occurrences.{seen_in, seen_in_all, one_seen}
+use Rattle.std.proofs.Common.{ap, ◌∙◌}
+use Rattle.species_references.specs.Occurrences.{seen_in}
 use Rattle.species_references.specs.Ranges.{as_ranges}
 use Rattle.species_references.proofs.SeenLaws as eq
 use Rattle.species_references.proofs.ReadLaws.{none_more, one_more, elem_more, two_more, three_more, next_more}

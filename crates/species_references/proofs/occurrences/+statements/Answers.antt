@@ -1,4 +1,4 @@
-use Rattle.std.proofs.Common.{rules, ◌≡◌, ◌-◌, ◌∷◌, [], ◌++◌, ap, sym, ◌∙◌, refl, true, false, get_or, take, drop, length, map}
+use Rattle.std.proofs.Common.{rules, ◌≡◌, ◌-◌, ◌∷◌, [], ◌++◌, ap, sym, ◌∙◌, refl, true, false, get_or, take, drop, length}
 use Rattle.species_ast.specs.declared.tree.Loop.{out-Loop}
 use Rattle.species_linear.specs.Box.{zero_range}
 use Rattle.species_ast.specs.Scope.Hulls.{has_empty}

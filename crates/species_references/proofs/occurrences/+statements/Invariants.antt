@@ -1,4 +1,4 @@
-use Rattle.std.proofs.Common.{◌≡◌, ◌++◌, take}
+use Rattle.std.proofs.Common.{take}
 use Rattle.species_references.specs.Ranges.{as_ranges, ranges_in_list}
 use Rattle.species_references.specs.Occurrences.{all_seen, seen_in_list, Collected}
 use Rattle.species_references.specs.References.{adds_of}
