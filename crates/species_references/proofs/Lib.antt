@@ -1,10 +1,10 @@
-mod SeenLaws
-mod ReadLaws
-mod StatementLaws
-mod LevelLaws
-mod ExtentLaws
-mod DimensionLaws
-mod BoxLaws
-mod GroupLaws
+mod SeenLemmas
+mod ReadLemmas
+mod StatementLemmas
+mod LevelLemmas
+mod ExtentLemmas
+mod DimensionLemmas
+mod GroupLemmas
+pub mod BoxLaws
+pub mod TurnLaws
 mod Examples
-mod TurnLaws

@@ -1,6 +1,6 @@
 use Rattle.std.proofs.Common.{arith, pos}
 use Rattle.species_linear.specs.declared.forms.Term.{Term}
-use Rattle.species_references.proofs.ExtentLaws.{place_below_level, extent_next, extent_all}
+use Rattle.species_references.proofs.ExtentLemmas.{place_below_level, extent_next, extent_all}
 use Rattle.species_references.proofs.boxes.inner_box.Goals as goal
 
 pub with_term-extent-requires-clause-small_low : goal.with_term-extent-requires-clause-small_low

@@ -1,4 +1,4 @@
-use Rattle.species_references.proofs.ExtentLaws.{IsExtent}
+use Rattle.species_references.proofs.ExtentLemmas.{IsExtent}
 use Rattle.species_references.proofs.boxes.inner_box.Given as goal
 
 abbrev pub invariant-loop-term : goal.invariant-loop-term

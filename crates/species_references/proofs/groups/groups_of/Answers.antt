@@ -1,7 +1,7 @@
 use Rattle.std.proofs.Common.{◌≡◌, refl, rules, [], ◌∷◌, ◌++◌}
 use Rattle.species_references.specs.declared.groups.ArrayPlaces.{ArrayPlaces}
 use Rattle.species_references.specs.Groups.{HasGroup}
-use Rattle.species_references.proofs.GroupLaws.{all_groups, there_more, push_more}
+use Rattle.species_references.proofs.GroupLemmas.{all_groups, there_more, push_more}
 use Rattle.species_references.proofs.groups.groups_of.Goals as goal
 
 pub returns : goal.returns

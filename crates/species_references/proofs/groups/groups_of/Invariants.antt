@@ -1,4 +1,4 @@
-use Rattle.species_references.proofs.GroupLaws.{AreGroupsOf}
+use Rattle.species_references.proofs.GroupLemmas.{AreGroupsOf}
 use Rattle.species_references.proofs.groups.groups_of.Given as goal
 
 abbrev pub invariant-loop-reference : goal.invariant-loop-reference

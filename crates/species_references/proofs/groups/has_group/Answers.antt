@@ -1,5 +1,5 @@
 use Rattle.std.proofs.Common.{◌≡◌, refl, true, false}
-use Rattle.species_references.proofs.GroupLaws.{has_at, has_none}
+use Rattle.species_references.proofs.GroupLemmas.{has_at, has_none}
 use Rattle.species_references.proofs.groups.has_group.Goals as goal
 
 pub returns-then-group-array : goal.returns-then-group-array

@@ -7,7 +7,7 @@ use Rattle.species_occurrences.specs.Anywhere.{unplaced}
 use Rattle.species_references.specs.Ranges.{as_ranges}
 use Rattle.species_references.specs.References.{adds_of}
 use Rattle.species_references.specs.Occurrences.{all_seen}
-use Rattle.species_references.proofs.DimensionLaws.{nest_seen, seen_length, resolved_placed}
+use Rattle.species_references.proofs.DimensionLemmas.{nest_seen, seen_length, resolved_placed}
 use Rattle.species_references.proofs.nest.references.Goals as goal
 
 then : {V E : Type 0} (P Q : V → Type 0) (r : Result V E) → ((v : V) → P v → Q v) → IfOk r P → IfOk r Q

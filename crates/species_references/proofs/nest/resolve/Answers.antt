@@ -1,7 +1,7 @@
 use Rattle.species_ast.specs.Evaluation.{sizes_of}
 use Rattle.species_ast.specs.Run.{source_context}
 use Rattle.species_references.specs.Ranges.{as_ranges}
-use Rattle.species_references.proofs.DimensionLaws.{dimension_more}
+use Rattle.species_references.proofs.DimensionLemmas.{dimension_more}
 use Rattle.species_references.proofs.nest.resolve.Goals as goal
 
 pub loop-dimension-preserved : goal.loop-dimension-preserved

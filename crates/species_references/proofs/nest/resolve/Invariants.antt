@@ -1,7 +1,7 @@
 use Rattle.species_ast.specs.Evaluation.{sizes_of}
 use Rattle.species_ast.specs.Run.{source_context}
 use Rattle.species_references.specs.Ranges.{as_ranges}
-use Rattle.species_references.proofs.DimensionLaws.{AreDimensions}
+use Rattle.species_references.proofs.DimensionLemmas.{AreDimensions}
 use Rattle.species_references.proofs.nest.resolve.Given as goal
 
 abbrev pub invariant-loop-dimension : goal.invariant-loop-dimension

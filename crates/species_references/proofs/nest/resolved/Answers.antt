@@ -1,7 +1,7 @@
 use Rattle.std.proofs.Common.{◌≡◌, rules, ◌++◌, ◌∷◌, []}
 use Rattle.species_ast.specs.Evaluation.{sizes_of}
 use Rattle.species_ast.specs.Run.{source_context}
-use Rattle.species_references.proofs.DimensionLaws.{next_resolved}
+use Rattle.species_references.proofs.DimensionLemmas.{next_resolved}
 use Rattle.species_references.proofs.nest.resolved.Goals as goal
 
 pub loop-number-preserved : goal.loop-number-preserved

@@ -1,6 +1,6 @@
 use Rattle.species_ast.specs.Evaluation.{sizes_of}
 use Rattle.species_ast.specs.Run.{source_context}
-use Rattle.species_references.proofs.DimensionLaws.{AreResolved}
+use Rattle.species_references.proofs.DimensionLemmas.{AreResolved}
 use Rattle.species_references.proofs.nest.resolved.Given as goal
 
 abbrev pub invariant-loop-number : goal.invariant-loop-number

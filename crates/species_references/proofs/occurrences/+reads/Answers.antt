@@ -1,8 +1,8 @@
 use Rattle.std.proofs.Common.{ap, ◌∙◌}
 use Rattle.species_references.specs.Occurrences.{seen_in}
 use Rattle.species_references.specs.Ranges.{as_ranges}
-use Rattle.species_references.proofs.SeenLaws as eq
-use Rattle.species_references.proofs.ReadLaws.{none_more, one_more, elem_more, two_more, three_more, next_more}
+use Rattle.species_references.proofs.SeenLemmas as eq
+use Rattle.species_references.proofs.ReadLemmas.{none_more, one_more, elem_more, two_more, three_more, next_more}
 use Rattle.species_references.proofs.occurrences.+reads.Goals as goal
 
 pub add_all_reads-loop-value-preserved : goal.add_all_reads-loop-value-preserved

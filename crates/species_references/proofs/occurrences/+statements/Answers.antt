@@ -5,8 +5,8 @@ use Rattle.species_ast.specs.Scope.Hulls.{has_empty}
 use Rattle.species_references.specs.Occurrences.{seen, all_seen, is_left_out}
 use Rattle.species_references.specs.Ranges.{as_range, as_ranges}
 use Rattle.species_references.specs.References.{adds_of}
-use Rattle.species_references.proofs.SeenLaws.{map_append}
-use Rattle.species_references.proofs.StatementLaws.{assign_more, add_more, if_more, block_more, next_stmt, all_stmts, loop_more, first_is, take_front}
+use Rattle.species_references.proofs.SeenLemmas.{map_append}
+use Rattle.species_references.proofs.StatementLemmas.{assign_more, add_more, if_more, block_more, next_stmt, all_stmts, loop_more, first_is, take_front}
 use Rattle.species_references.proofs.occurrences.+statements.Goals as goal
 
 pub add_stmt-returns-in_ok-add_element-in-Assign : goal.add_stmt-returns-in_ok-add_element-in-Assign

@@ -1,6 +1,6 @@
 use Rattle.std.proofs.Common.{◌≡◌, subst, sym, rules}
 use Rattle.species_references.specs.Groups.{AreGroups}
-use Rattle.species_references.proofs.GroupLaws.{places_none}
+use Rattle.species_references.proofs.GroupLemmas.{places_none}
 use Rattle.species_references.proofs.groups.Grouped.places_of.Goals as goal
 
 pub returns : goal.returns

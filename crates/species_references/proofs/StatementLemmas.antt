@@ -12,8 +12,8 @@ use Rattle.species_ast.specs.Scope.References.{Reference, Adding}
 use Rattle.species_ast.proofs.Folds.{fold_stmt-Assign, fold_stmt-AddTo, fold_stmt-Declare, fold_stmt-SetLocal, fold_stmt-If, fold_stmt-For, fold_stmt-Block, fold_loop-out}
 use Rattle.species_references.specs.Ranges.{ranges_at, ranges_within, ranges_in, ranges_in_list, ranges_in_loop}
 use Rattle.species_references.specs.Occurrences.{one_seen, seen_in, seen_in_all, seen_in_stmt, seen_in_list, seen_in_loop, seen_addition, is_left_out, Collected}
-use Rattle.species_references.proofs.SeenLaws.{seen-Assign, seen-AddTo, seen-Declare, seen-SetLocal, seen-If, seen-For, seen-Block, seen-Loop, seen_init, unless_left_out}
-use Rattle.species_references.proofs.ReadLaws.{two_lists}
+use Rattle.species_references.proofs.SeenLemmas.{seen-Assign, seen-AddTo, seen-Declare, seen-SetLocal, seen-If, seen-For, seen-Block, seen-Loop, seen_init, unless_left_out}
+use Rattle.species_references.proofs.ReadLemmas.{two_lists}
 
 pub collected_then : (ranges own mid next rest : List Range) (old more new late last : List Reference) → Collected ranges own mid old more new → Collected mid next rest new late last
     → Collected ranges (own ++ next) rest old (more ++ late) last

@@ -18,7 +18,7 @@ use Rattle.species_references.specs.Boxes.{IsBoxIn, AreBoxes}
 use Rattle.species_references.specs.References.{IsReference, AreNumberedFrom}
 use Rattle.species_references.specs.Ranges.{ranges_in_loop}
 use Rattle.species_references.specs.Occurrences.{seen, all_seen, seen_in_loop, Collected}
-use Rattle.species_references.proofs.SeenLaws.{map_append, nest_anywhere}
+use Rattle.species_references.proofs.SeenLemmas.{map_append, nest_anywhere}
 
 pair_more : {X Y : Type 0} (R : X → Y → Type 0) (xs : List X) (ys : List Y) (x : X) (y : Y) → Pairwise R xs ys → R x y → Pairwise R (xs ++ x ∷ []) (ys ++ y ∷ [])
 pair_more R [] [] x y h r = (r, tt)

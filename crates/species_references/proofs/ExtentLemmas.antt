@@ -21,7 +21,7 @@ use Rattle.species_linear.specs.Box.{zero_range}
 use Rattle.species_references.specs.declared.boxes.Extent.{Extent}
 use Rattle.species_references.specs.Ranges.{as_range, as_ranges}
 use Rattle.species_references.specs.Boxes.{gap_of, IsBoxOf}
-use Rattle.species_references.proofs.LevelLaws.{levels, DividesLevels, range_in, term_more, gap_more, no_levels, no_gaps, least_nothing, greatest_nothing, least_levels, greatest_levels, gap_levels}
+use Rattle.species_references.proofs.LevelLemmas.{levels, DividesLevels, range_in, term_more, gap_more, no_levels, no_gaps, least_nothing, greatest_nothing, least_levels, greatest_levels, gap_levels}
 
 -- the inner levels of loops with these ranges
 abbrev inner_sum : (ℤ → Range → ℤ) → List Term → ℕ → List LoopRange → ℤ
