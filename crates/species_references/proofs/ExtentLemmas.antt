@@ -19,16 +19,16 @@ use Rattle.species_linear.specs.Rising.{IsRising, IsRisingFrom}
 use Rattle.species_linear.specs.Value.{coefficient_at}
 use Rattle.species_linear.specs.Box.{zero_range}
 use Rattle.species_references.specs.declared.boxes.Extent.{Extent}
-use Rattle.species_references.specs.Ranges.{as_range, as_ranges}
+use Rattle.species_references.specs.Ranges.{range_seen, ranges_seen}
 use Rattle.species_references.specs.Boxes.{gap_of, IsBoxOf}
 use Rattle.species_references.proofs.LevelLemmas.{levels, DividesLevels, range_in, term_more, gap_more, no_levels, no_gaps, least_nothing, greatest_nothing, least_levels, greatest_levels, gap_levels}
 
 -- the inner levels of loops with these ranges
 abbrev inner_sum : (ℤ → Range → ℤ) → List Term → ℕ → List LoopRange → ℤ
-inner_sum part ts inner path = levels part (coefficient_at ts) inner (drop inner (as_ranges path))
+inner_sum part ts inner path = levels part (coefficient_at ts) inner (drop inner (ranges_seen path))
 
 abbrev DividesInner : ℕ → List Term → ℕ → List LoopRange → Type 0
-DividesInner d ts inner path = DividesLevels d (coefficient_at ts) inner (drop inner (as_ranges path))
+DividesInner d ts inner path = DividesLevels d (coefficient_at ts) inner (drop inner (ranges_seen path))
 
 -- The extent of the first i terms: with the others it is that of the whole, and it is small.
 pub record IsExtent (ts : List Term) (constant : ℤ) (inner : ℕ) (path : List LoopRange) (i : ℕ) (e : Extent) : Type 0 where
@@ -73,15 +73,15 @@ place_below_level k (suc i) (t ∷ ts) d r h = omega (arith, r.0, place_below_le
 
 pub extent_next : (ts : List Term) (constant : ℤ) (inner : ℕ) (path : List LoopRange) (i : ℕ) (d : Term) (range : LoopRange) (e next : Extent) → IsRising ts → i < length ts
     → range ≡ range_in path inner (slice_index_or ts i d).level
-    → next.low ≡ e.low +ℤ least_product (slice_index_or ts i d).coefficient (as_range range) → next.high ≡ e.high +ℤ greatest_product (slice_index_or ts i d).coefficient (as_range range)
-    → IsGcd e.divisor (gap_of (slice_index_or ts i d).coefficient (as_range range)) next.divisor
+    → next.low ≡ e.low +ℤ least_product (slice_index_or ts i d).coefficient (range_seen range) → next.high ≡ e.high +ℤ greatest_product (slice_index_or ts i d).coefficient (range_seen range)
+    → IsGcd e.divisor (gap_of (slice_index_or ts i d).coefficient (range_seen range)) next.divisor
     → unsigned_abs next.low ≤ unsigned_abs e.low + 2 ^ 94 → unsigned_abs next.high ≤ unsigned_abs e.high + 2 ^ 94
     → IsExtent ts constant inner path i e → IsExtent ts constant inner path (i + 1) next
 extent_next ts constant inner path i d range e next rising below is low high divisor grows_low grows_high so =
     let t : Term = slice_index_or ts i d in
     let rest : List Term = drop (i + 1) ts in
     let left : IsRisingFrom 0 (t ∷ rest) = rising_left 0 i ts d rising below in
-    let there : as_range range ≡ as_range (range_in path inner t.level) = ap as_range is in
+    let there : range_seen range ≡ range_seen (range_in path inner t.level) = ap range_seen is in
     record {
       low =
           let cut = at_drop_more (λ us. inner_sum least_product us inner path) ts i d below in
@@ -111,21 +111,21 @@ extent_next ts constant inner path i d range e next rising below is low high div
     zero_times : (x : ℤ) → x *ℤ pos 0 ≡ pos 0
     zero_times x = *ℤ_comm x (pos 0) ∙ mul_zero x
 
-    least_single : (x : ℤ) → least_product x (as_range zero_range) ≡ pos 0
+    least_single : (x : ℤ) → least_product x (range_seen zero_range) ≡ pos 0
     least_single (pos n) = zero_times (pos n)
     least_single (negsuc n) = zero_times (negsuc n)
 
-    greatest_single : (x : ℤ) → greatest_product x (as_range zero_range) ≡ pos 0
+    greatest_single : (x : ℤ) → greatest_product x (range_seen zero_range) ≡ pos 0
     greatest_single (pos n) = zero_times (pos n)
     greatest_single (negsuc n) = zero_times (negsuc n)
 
 -- the numbers of a form all of whose terms are taken
 pub extent_all : (g : Form) (f : text.Form) (ts : List Term) (inner : ℕ) (path : List LoopRange) (i : ℕ) (e : Extent) (x : Span) → IsSameForm g f → ts ≡ g.terms → length ts ≤ i
-    → IsExtent ts g.constant inner path i e → x ≡ record { low = e.low; high = e.high; stride = if nat_eq e.divisor 0 then 1 else e.divisor } → IsBoxOf inner (as_ranges path) f x
+    → IsExtent ts g.constant inner path i e → x ≡ record { low = e.low; high = e.high; stride = if nat_eq e.divisor 0 then 1 else e.divisor } → IsBoxOf inner (ranges_seen path) f x
 extent_all g f ts inner path i e x same terms past first is =
     let so = subst (λ us. IsExtent us g.constant inner path i e) terms first in
     let none : drop i g.terms ≡ [] = ap (drop i) (sym terms) ∙ at_drop_all (λ us. us) ts i past in
-    let rest = drop inner (as_ranges path) in
+    let rest = drop inner (ranges_seen path) in
     record {
       low =
           let left = no_levels least_product (drop i g.terms) inner rest none least_nothing in

@@ -15,7 +15,7 @@ use Rattle.species_linear.specs.Box.{zero_range, range_at}
 use Rattle.species_linear.specs.Rising.{IsRisingFrom}
 use Rattle.species_linear.specs.Value.{coefficient_at}
 use Rattle.species_linear.proofs.Coefficients.{coefficient_before}
-use Rattle.species_references.specs.Ranges.{as_range, as_ranges}
+use Rattle.species_references.specs.Ranges.{range_seen, ranges_seen}
 use Rattle.species_references.specs.Boxes.{unit_of, gap_of, gaps_of}
 
 -- ---- the sum of the parts of the levels from k on
@@ -52,7 +52,7 @@ hit_from none part k (suc j) x (r ∷ path) z h =
     rw other (ap (λ n. hit none part (suc k) n x path) next ∙ hit_from none part (suc k) j x path z h)
 
 -- the ranges of the code
-ranges_at : (path : List LoopRange) (n : ℕ) → slice_index_or (as_ranges path) n (as_range zero_range) ≡ as_range (range_at path n)
+ranges_at : (path : List LoopRange) (n : ℕ) → slice_index_or (ranges_seen path) n (range_seen zero_range) ≡ range_seen (range_at path n)
 ranges_at [] n = refl
 ranges_at (r ∷ path) zero = refl
 ranges_at (r ∷ path) (suc n) = ranges_at path n
@@ -60,20 +60,20 @@ ranges_at (r ∷ path) (suc n) = ranges_at path n
 abbrev pub range_in : List LoopRange → ℕ → ℕ → LoopRange
 range_in path inner n = if nat_lt n inner then zero_range else range_at path n
 
-pub hit_is : {X : Type 0} (none : X) (part : ℤ → Range → X) (inner n : ℕ) (x : ℤ) (path : List LoopRange) → part x (as_range zero_range) ≡ none
-    → hit none part inner n x (drop inner (as_ranges path)) ≡ part x (as_range (range_in path inner n))
+pub hit_is : {X : Type 0} (none : X) (part : ℤ → Range → X) (inner n : ℕ) (x : ℤ) (path : List LoopRange) → part x (range_seen zero_range) ≡ none
+    → hit none part inner n x (drop inner (ranges_seen path)) ≡ part x (range_seen (range_in path inner n))
 hit_is none part inner n x path h = go (nat_lt n inner) refl
   where
-    go : (t : Bool) → nat_lt n inner ≡ t → hit none part inner n x (drop inner (as_ranges path)) ≡ part x (as_range (if t then zero_range else range_at path n))
+    go : (t : Bool) → nat_lt n inner ≡ t → hit none part inner n x (drop inner (ranges_seen path)) ≡ part x (range_seen (if t then zero_range else range_at path n))
     go true is =
         let below : n < inner = grind (arith, nat_tests) in
-        hit_before none part inner n x (drop inner (as_ranges path)) below ∙ sym h
+        hit_before none part inner n x (drop inner (ranges_seen path)) below ∙ sym h
     go false is =
         let above : inner ≤ n = grind (arith, nat_tests) in
         let there : n ≡ inner + (n - inner) = omega arith in
-        ap (λ m. hit none part inner m x (drop inner (as_ranges path))) there
-        ∙ hit_from none part inner (n - inner) x (drop inner (as_ranges path)) (as_range zero_range) h
-        ∙ ap (part x) (get_or-drop inner (as_ranges path) (n - inner) (as_range zero_range) ∙ ap (λ m. slice_index_or (as_ranges path) m (as_range zero_range)) (sym there) ∙ ranges_at path n)
+        ap (λ m. hit none part inner m x (drop inner (ranges_seen path))) there
+        ∙ hit_from none part inner (n - inner) x (drop inner (ranges_seen path)) (range_seen zero_range) h
+        ∙ ap (part x) (get_or-drop inner (ranges_seen path) (n - inner) (range_seen zero_range) ∙ ap (λ m. slice_index_or (ranges_seen path) m (range_seen zero_range)) (sym there) ∙ ranges_at path n)
 
 -- ---- one term more
 
@@ -102,12 +102,12 @@ one_more part n k x c (r ∷ path) h z = go (nat_eq n k) refl (one_more part n (
     go false is more = omega (arith, ints, more)
 
 -- the terms of a form that rise, of which this is the first
-pub term_more : (part : ℤ → Range → ℤ) (t : Term) (ts : List Term) (inner k : ℕ) (path : List LoopRange) → ((r : Range) → part (pos 0) r ≡ pos 0) → part t.coefficient (as_range zero_range) ≡ pos 0 → IsRisingFrom k (t ∷ ts)
-    → levels part (coefficient_at (t ∷ ts)) inner (drop inner (as_ranges path))
-    ≡ part t.coefficient (as_range (range_in path inner t.level)) +ℤ levels part (coefficient_at ts) inner (drop inner (as_ranges path))
+pub term_more : (part : ℤ → Range → ℤ) (t : Term) (ts : List Term) (inner k : ℕ) (path : List LoopRange) → ((r : Range) → part (pos 0) r ≡ pos 0) → part t.coefficient (range_seen zero_range) ≡ pos 0 → IsRisingFrom k (t ∷ ts)
+    → levels part (coefficient_at (t ∷ ts)) inner (drop inner (ranges_seen path))
+    ≡ part t.coefficient (range_seen (range_in path inner t.level)) +ℤ levels part (coefficient_at ts) inner (drop inner (ranges_seen path))
 term_more part t ts inner k path h z rising =
-    one_more part t.level inner t.coefficient (coefficient_at ts) (drop inner (as_ranges path)) h (coefficient_before (t.level + 1) t.level ts rising.2 (omega arith))
-    ∙ ap (λ w. w +ℤ levels part (coefficient_at ts) inner (drop inner (as_ranges path))) (hit_is (pos 0) part inner t.level t.coefficient path z)
+    one_more part t.level inner t.coefficient (coefficient_at ts) (drop inner (ranges_seen path)) h (coefficient_before (t.level + 1) t.level ts rising.2 (omega arith))
+    ∙ ap (λ w. w +ℤ levels part (coefficient_at ts) inner (drop inner (ranges_seen path))) (hit_is (pos 0) part inner t.level t.coefficient path z)
 
 levels_none : (part : ℤ → Range → ℤ) (k : ℕ) (path : List Range) → ((r : Range) → part (pos 0) r ≡ pos 0) → levels part (coefficient_at []) k path ≡ pos 0
 levels_none part k [] h = refl
@@ -125,7 +125,7 @@ gap_nothing r = go (int_eq r.low r.high)
     go true = refl
     go false = omega arith
 
-gap_single : (x : ℤ) → gap_of x (as_range zero_range) ≡ 0
+gap_single : (x : ℤ) → gap_of x (range_seen zero_range) ≡ 0
 gap_single x = refl
 
 divides_nothing : (d k : ℕ) (c : ℕ → ℤ) (r : Range) → c k ≡ pos 0 → d ∣ gap_of (c k) r
@@ -159,12 +159,12 @@ gap_one_more d n k x c (r ∷ path) z = go (nat_eq n k) refl (gap_one_more d n (
     go false is more = ((λ p. let q = more.0 p.1 in (q.0, (p.0, q.1))), (λ p. (p.1.0, more.1 (p.0, p.1.1))))
 
 pub gap_more : (d : ℕ) (t : Term) (ts : List Term) (inner k : ℕ) (path : List LoopRange) → IsRisingFrom k (t ∷ ts)
-    → (DividesLevels d (coefficient_at (t ∷ ts)) inner (drop inner (as_ranges path))
-    → (d ∣ gap_of t.coefficient (as_range (range_in path inner t.level))) × DividesLevels d (coefficient_at ts) inner (drop inner (as_ranges path)))
-    × ((d ∣ gap_of t.coefficient (as_range (range_in path inner t.level))) × DividesLevels d (coefficient_at ts) inner (drop inner (as_ranges path))
-    → DividesLevels d (coefficient_at (t ∷ ts)) inner (drop inner (as_ranges path)))
+    → (DividesLevels d (coefficient_at (t ∷ ts)) inner (drop inner (ranges_seen path))
+    → (d ∣ gap_of t.coefficient (range_seen (range_in path inner t.level))) × DividesLevels d (coefficient_at ts) inner (drop inner (ranges_seen path)))
+    × ((d ∣ gap_of t.coefficient (range_seen (range_in path inner t.level))) × DividesLevels d (coefficient_at ts) inner (drop inner (ranges_seen path))
+    → DividesLevels d (coefficient_at (t ∷ ts)) inner (drop inner (ranges_seen path)))
 gap_more d t ts inner k path rising =
-    let both = gap_one_more d t.level inner t.coefficient (coefficient_at ts) (drop inner (as_ranges path)) (coefficient_before (t.level + 1) t.level ts rising.2 (omega arith)) in
+    let both = gap_one_more d t.level inner t.coefficient (coefficient_at ts) (drop inner (ranges_seen path)) (coefficient_before (t.level + 1) t.level ts rising.2 (omega arith)) in
     let is = hit_is 0 gap_of inner t.level t.coefficient path (gap_single t.coefficient) in (
       (λ p. let q = both.0 p in (subst (λ m. d ∣ m) is q.0, q.1)),
       (λ p. both.1 (subst (λ m. d ∣ m) (sym is) p.0, p.1)),

@@ -10,7 +10,7 @@ use Rattle.species_ast.specs.Scope.References.{Where, Reference, reference, elem
 use Rattle.species_occurrences.specs.Anywhere.{unplaced}
 use Rattle.species_references.specs.declared.occurrences.Occurrence.{Occurrence}
 use Rattle.species_references.specs.References.{direction_of}
-use Rattle.species_references.specs.Ranges.{as_ranges}
+use Rattle.species_references.specs.Ranges.{ranges_seen}
 
 -- in loops with these ranges, at no position
 abbrev pub there : List Range → Bool → Where
@@ -21,7 +21,7 @@ abbrev pub one_seen : Direction → ℕ → List Expr → List Range → Bool �
 one_seen d a subs path conditional = reference (there path conditional) 0 d a (map form_of subs)
 
 abbrev pub seen : Occurrence → Reference
-seen o = one_seen (direction_of o.dir) o.array o.subs.now (as_ranges o.path) o.conditional
+seen o = one_seen (direction_of o.dir) o.array o.subs.now (ranges_seen o.path) o.conditional
 
 abbrev pub all_seen : List Occurrence → List Reference
 all_seen os = map seen os

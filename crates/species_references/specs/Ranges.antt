@@ -7,11 +7,11 @@ use Rattle.species_ast.specs.Scope.Hulls.{Range, range_of}
 use Rattle.species_linear.specs.declared.loops.LoopRange.{LoopRange}
 
 -- a range as the analysis holds it
-abbrev pub as_range : LoopRange → Range
-as_range r = record { low = r.low; high = r.high; step = r.step; start = r.start; fixed = r.fixed }
+abbrev pub range_seen : LoopRange → Range
+range_seen r = record { low = r.low; high = r.high; step = r.step; start = r.start; fixed = r.fixed }
 
-abbrev pub as_ranges : List LoopRange → List Range
-as_ranges rs = map as_range rs
+abbrev pub ranges_seen : List LoopRange → List Range
+ranges_seen rs = map range_seen rs
 
 -- of what stands in loops with these ranges
 abbrev pub Ranging : Type 0

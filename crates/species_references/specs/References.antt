@@ -9,7 +9,7 @@ use Rattle.species_ast.specs.Accesses.{Direction, Reads, Writes, Adds}
 use Rattle.species_ast.specs.Scope.References as text
 use Rattle.species_references.specs.declared.nest.Reference.{Reference}
 use Rattle.species_references.specs.Boxes.{AreBoxes}
-use Rattle.species_references.specs.Ranges.{as_ranges}
+use Rattle.species_references.specs.Ranges.{ranges_seen}
 
 abbrev pub direction_of : Dir → Direction
 direction_of dir.Read = Reads
@@ -28,7 +28,7 @@ pub record IsReference (sizes : ℕ → List ℕ) (inner : ℕ) (r : Reference) 
   pub subs : Pairwise IsSubscript r.subs q.subs
   pub numbers : All HasFormNumbers r.subs
   pub conditional : r.conditional ≡ q.conditional
-  pub path : as_ranges r.path ≡ q.path
+  pub path : ranges_seen r.path ≡ q.path
   pub boxes : AreBoxes inner q.path (sizes q.array) q.subs r.boxes
 
 -- the numbers of the references go up by one from n

@@ -8,7 +8,7 @@ ghost use Rattle.species_affine.specs.Subscript.{IsSubscript, IsSameForm, HasFor
 ghost use Rattle.species_ast.specs.Scope.Forms as text;
 ghost use Rattle.species_ast.specs.Scope.Hulls.{least_product, greatest_product};
 ghost use Rattle.species_linear.specs.Box.{zero_range, range_at};
-ghost use Rattle.species_references.specs.Ranges.{as_range, as_ranges};
+ghost use Rattle.species_references.specs.Ranges.{range_seen, ranges_seen};
 ghost use Rattle.species_references.specs.Boxes.{unit_of, gap_of, IsBoxOf, IsBoxIn};
 
 use species_affine::Subscript;
@@ -60,7 +60,7 @@ impl Boxes {
 /// The box of a subscript in a dimension of this size. The inner loops are those from level `inner` on.
 pub(crate) fn box_of(subscript: &Subscript, inner: usize, path: &[LoopRange], size: u32) -> Span
     requires { HasFormNumbers subscript.now }
-    ensures { (o : Option text.Form) → IsSubscript subscript.now o → IsBoxIn inner (as_ranges path.now) size o result }
+    ensures { (o : Option text.Form) → IsSubscript subscript.now o → IsBoxIn inner (ranges_seen path.now) size o result }
 {
     match subscript {
         Subscript::Affine(form) => inner_box(form, inner, path),
@@ -84,7 +84,7 @@ pub(crate) struct Extent {
 fn inner_box(form: &Form, inner: usize, path: &[LoopRange]) -> Span
     requires constant { IsWithin form.now.constant }
     requires coefficients { All (λ t. IsWithin t.coefficient) form.now.terms }
-    ensures { (f : text.Form) → IsSameForm form.now f → IsBoxOf inner (as_ranges path.now) f result }
+    ensures { (f : text.Form) → IsSameForm form.now f → IsBoxOf inner (ranges_seen path.now) f result }
 {
     let mut extent = Extent {
         low: form.constant,
@@ -122,11 +122,11 @@ fn with_term(extent: Extent, term: Term, range: LoopRange) -> Extent
     requires small_low { unsigned_abs extent.low ≤ 2 ^ 126 + 2 ^ 94 }
     requires small_high { unsigned_abs extent.high ≤ 2 ^ 126 + 2 ^ 94 }
     requires small { IsWithin term.coefficient }
-    ensures low { result.low ≡ extent.low +ℤ least_product term.coefficient (as_range range) }
-    ensures high { result.high ≡ extent.high +ℤ greatest_product term.coefficient (as_range range) }
+    ensures low { result.low ≡ extent.low +ℤ least_product term.coefficient (range_seen range) }
+    ensures high { result.high ≡ extent.high +ℤ greatest_product term.coefficient (range_seen range) }
     ensures grows_low { unsigned_abs result.low ≤ unsigned_abs extent.low + 2 ^ 94 }
     ensures grows_high { unsigned_abs result.high ≤ unsigned_abs extent.high + 2 ^ 94 }
-    ensures divisor { IsGcd extent.divisor (gap_of term.coefficient (as_range range)) result.divisor }
+    ensures divisor { IsGcd extent.divisor (gap_of term.coefficient (range_seen range)) result.divisor }
 {
     Extent {
         low: extent.low + least_product(term, range),
@@ -151,7 +151,7 @@ fn finish(extent: Extent) -> Span
 
 fn least_product(term: Term, range: LoopRange) -> i128
     requires { IsWithin term.coefficient }
-    ensures value { result ≡ least_product term.coefficient (as_range range) }
+    ensures value { result ≡ least_product term.coefficient (range_seen range) }
     ensures small { unsigned_abs result ≤ 2 ^ 94 }
 {
     if term.coefficient < 0 {
@@ -163,7 +163,7 @@ fn least_product(term: Term, range: LoopRange) -> i128
 
 fn greatest_product(term: Term, range: LoopRange) -> i128
     requires { IsWithin term.coefficient }
-    ensures value { result ≡ greatest_product term.coefficient (as_range range) }
+    ensures value { result ≡ greatest_product term.coefficient (range_seen range) }
     ensures small { unsigned_abs result ≤ 2 ^ 94 }
 {
     if term.coefficient < 0 {
@@ -185,7 +185,7 @@ fn product(coefficient: i128, end: i64) -> i128
 /// iterator has one value.
 fn gap(term: Term, range: LoopRange) -> u128
     requires { IsWithin term.coefficient }
-    ensures { result ≡ gap_of term.coefficient (as_range range) }
+    ensures { result ≡ gap_of term.coefficient (range_seen range) }
 {
     if range.low == range.high {
         0
@@ -203,7 +203,7 @@ fn scaled(coefficient: i128, unit: u32) -> u128
 
 /// Two values of the iterator are a multiple of this apart.
 fn unit(range: LoopRange) -> u32
-    ensures { result ≡ unit_of (as_range range) }
+    ensures { result ≡ unit_of (range_seen range) }
 {
     if range.start.is_some() && range.fixed {
         range.step.unsigned_abs()

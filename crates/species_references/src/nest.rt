@@ -5,7 +5,7 @@ ghost use Rattle.species_arcs.specs.Pairwise.{Pairwise};
 ghost use Rattle.species_ast.specs.Evaluation.{sizes_of};
 ghost use Rattle.species_ast.specs.Run.{source_context};
 ghost use Rattle.species_ast.specs.Scope.References.{references_of};
-ghost use Rattle.species_references.specs.Ranges.{as_ranges, ranges_in_loop};
+ghost use Rattle.species_references.specs.Ranges.{ranges_seen, ranges_in_loop};
 ghost use Rattle.species_references.specs.References.{adds_of, IsReference, AreNumberedFrom};
 ghost use Rattle.species_references.specs.Occurrences.{seen, all_seen};
 
@@ -46,9 +46,9 @@ pub fn references(
     depth: u32,
     gathered: &[u32],
 ) -> Result<Vec<Reference>, OutOfMemory>
-    requires ranges { as_ranges ranges.now ≡ ranges_in_loop head.now (as_ranges path.now) }
-    requires few { length (references_of (adds_of gathered.now) head.now [] (as_ranges path.now) depth) < 2 ^ 32 }
-    ensures listed { IfOk result (λ found. (at : List ℕ) → Pairwise (IsReference (sizes_of (source_context unit.now)) (length path.now + depth)) found.items (references_of (adds_of gathered.now) head.now at (as_ranges path.now) depth)) }
+    requires ranges { ranges_seen ranges.now ≡ ranges_in_loop head.now (ranges_seen path.now) }
+    requires few { length (references_of (adds_of gathered.now) head.now [] (ranges_seen path.now) depth) < 2 ^ 32 }
+    ensures listed { IfOk result (λ found. (at : List ℕ) → Pairwise (IsReference (sizes_of (source_context unit.now)) (length path.now + depth)) found.items (references_of (adds_of gathered.now) head.now at (ranges_seen path.now) depth)) }
     ensures numbered { IfOk result (λ found. AreNumberedFrom 0 found.items) }
 {
     let mut occurrences = Vec::new(alloc);

@@ -3,7 +3,7 @@
 ghost use Rattle.std.specs.Prelude.{◌≡◌, ◌++◌, ◌∷◌, [], OnOk, IfOk, nat_eq};
 ghost use Rattle.std.specs.List.{list_any};
 ghost use Rattle.species_ast.specs.Scope.Hulls.{has_empty};
-ghost use Rattle.species_references.specs.Ranges.{as_ranges, ranges_in, ranges_in_list, ranges_in_loop};
+ghost use Rattle.species_references.specs.Ranges.{ranges_seen, ranges_in, ranges_in_list, ranges_in_loop};
 ghost use Rattle.species_references.specs.References.{direction_of, adds_of};
 ghost use Rattle.species_references.specs.Occurrences.{all_seen, one_seen, seen_in, seen_in_all, seen_in_stmt, seen_in_list, seen_in_loop, seen_addition, is_left_out, Collected};
 
@@ -33,7 +33,7 @@ fn add_element<'a>(
     conditional: bool,
     found: &mut Vec<Occurrence<'a>>,
 ) -> Result<(), OutOfMemory>
-    ensures { OnOk result (all_seen found.new.items ≡ all_seen found.old.items ++ one_seen (direction_of dir) array subs.now (as_ranges path.now) conditional ∷ []) }
+    ensures { OnOk result (all_seen found.new.items ≡ all_seen found.old.items ++ one_seen (direction_of dir) array subs.now (ranges_seen path.now) conditional ∷ []) }
 {
     let path = Ranges::from(Vec::from_slice(alloc, path)?);
     found.push(Occurrence {
@@ -55,7 +55,7 @@ fn add_reads<'a>(
     conditional: bool,
     found: &mut Vec<Occurrence<'a>>,
 ) -> Result<(), OutOfMemory>
-    ensures { OnOk result (all_seen found.new.items ≡ all_seen found.old.items ++ seen_in value.now (as_ranges path.now) conditional) }
+    ensures { OnOk result (all_seen found.new.items ≡ all_seen found.old.items ++ seen_in value.now (ranges_seen path.now) conditional) }
 {
     match value {
         Expr::Elem(array, subs) => {
@@ -104,7 +104,7 @@ fn add_all_reads<'a>(
     conditional: bool,
     found: &mut Vec<Occurrence<'a>>,
 ) -> Result<(), OutOfMemory>
-    ensures { OnOk result (all_seen found.new.items ≡ all_seen found.old.items ++ seen_in_all values.now (as_ranges path.now) conditional) }
+    ensures { OnOk result (all_seen found.new.items ≡ all_seen found.old.items ++ seen_in_all values.now (ranges_seen path.now) conditional) }
 {
     for value in values {
         add_reads(alloc, value, path, conditional, found)?;
@@ -123,7 +123,7 @@ fn add_addition<'a>(
     conditional: bool,
     found: &mut Vec<Occurrence<'a>>,
 ) -> Result<(), OutOfMemory>
-    ensures { OnOk result (all_seen found.new.items ≡ all_seen found.old.items ++ seen_addition gathered array subs.now value.now (as_ranges path.now) conditional) }
+    ensures { OnOk result (all_seen found.new.items ≡ all_seen found.old.items ++ seen_addition gathered array subs.now value.now (ranges_seen path.now) conditional) }
 {
     if gathered {
         add_reads(alloc, value, path, conditional, found)?;
@@ -143,7 +143,7 @@ fn is_gathered(gathered: &[u32], array: u32) -> bool
 }
 
 fn has_empty(path: &[LoopRange]) -> bool
-    ensures { result ≡ has_empty (as_ranges path.now) }
+    ensures { result ≡ has_empty (ranges_seen path.now) }
 {
     for range in path {
         if range.high < range.low {
@@ -155,7 +155,7 @@ fn has_empty(path: &[LoopRange]) -> bool
 
 /// Whether what stands in a loop is left out: below the band, where the loop's hull is empty.
 fn is_left_out(band: u32, path: &[LoopRange]) -> bool
-    ensures { result ≡ is_left_out band (has_empty (as_ranges path.now)) }
+    ensures { result ≡ is_left_out band (has_empty (ranges_seen path.now)) }
 {
     band == 0 && has_empty(path)
 }
@@ -173,7 +173,7 @@ fn add_stmt<'a, 'r>(
     ranges: &'r [LoopRange],
     found: &mut Vec<Occurrence<'a>>,
 ) -> Result<&'r [LoopRange], OutOfMemory>
-    ensures { IfOk result (λ rest. Collected (as_ranges ranges.now) (ranges_in statement.now (as_ranges path.now)) (as_ranges rest.now) (all_seen found.old.items) (seen_in_stmt (adds_of gathered.now) statement.now (as_ranges path.now) conditional band) (all_seen found.new.items)) }
+    ensures { IfOk result (λ rest. Collected (ranges_seen ranges.now) (ranges_in statement.now (ranges_seen path.now)) (ranges_seen rest.now) (all_seen found.old.items) (seen_in_stmt (adds_of gathered.now) statement.now (ranges_seen path.now) conditional band) (all_seen found.new.items)) }
 {
     match statement {
         Stmt::Assign {
@@ -294,7 +294,7 @@ fn add_list<'a, 'r>(
     ranges: &'r [LoopRange],
     found: &mut Vec<Occurrence<'a>>,
 ) -> Result<&'r [LoopRange], OutOfMemory>
-    ensures { IfOk result (λ rest. Collected (as_ranges ranges.now) (ranges_in_list statements.now (as_ranges path.now)) (as_ranges rest.now) (all_seen found.old.items) (seen_in_list (adds_of gathered.now) statements.now (as_ranges path.now) conditional band) (all_seen found.new.items)) }
+    ensures { IfOk result (λ rest. Collected (ranges_seen ranges.now) (ranges_in_list statements.now (ranges_seen path.now)) (ranges_seen rest.now) (all_seen found.old.items) (seen_in_list (adds_of gathered.now) statements.now (ranges_seen path.now) conditional band) (all_seen found.new.items)) }
 {
     let mut rest = ranges;
     for statement in statements {
@@ -324,7 +324,7 @@ pub(crate) fn add_loop<'a, 'r>(
     ranges: &'r [LoopRange],
     found: &mut Vec<Occurrence<'a>>,
 ) -> Result<&'r [LoopRange], OutOfMemory>
-    ensures { IfOk result (λ rest. Collected (as_ranges ranges.now) (ranges_in_loop head.now (as_ranges path.now)) (as_ranges rest.now) (all_seen found.old.items) (seen_in_loop (adds_of gathered.now) head.now (as_ranges path.now) conditional band) (all_seen found.new.items)) }
+    ensures { IfOk result (λ rest. Collected (ranges_seen ranges.now) (ranges_in_loop head.now (ranges_seen path.now)) (ranges_seen rest.now) (all_seen found.old.items) (seen_in_loop (adds_of gathered.now) head.now (ranges_seen path.now) conditional band) (all_seen found.new.items)) }
 {
     match ranges {
         [] => Ok(ranges),
