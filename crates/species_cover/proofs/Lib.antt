@@ -1,0 +1,5 @@
+mod WithinLemmas
+mod ListLemmas
+pub mod CoverLaws
+mod FoundLemmas
+mod DimLemmas

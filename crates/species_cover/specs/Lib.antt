@@ -1,0 +1,4 @@
+pub mod Within
+pub mod Cover
+pub mod Places
+pub mod Sizes
