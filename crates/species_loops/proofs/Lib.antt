@@ -1,0 +1,5 @@
+mod LineLaws
+mod ExtremeLaws
+mod HeaderLaws
+mod FrontLaws
+mod PathLaws

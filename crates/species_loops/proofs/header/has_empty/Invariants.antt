@@ -1,0 +1,7 @@
+use Rattle.std.proofs.Common.{◌≡◌, drop}
+use Rattle.species_ast.specs.Scope.Hulls.{has_empty}
+use Rattle.species_loops.specs.Ranges.{ranges_seen}
+use Rattle.species_loops.proofs.header.has_empty.Given as goal
+
+abbrev pub invariant-loop-range : goal.invariant-loop-range
+invariant-loop-range l = has_empty (ranges_seen (drop l.range-index l.path)) ≡ has_empty (ranges_seen l.path)
