@@ -1,5 +1,5 @@
 -- What an expression does, wherever it stands: sites do not matter to it.
-use Rattle.std.proofs.Common.{◌≡◌, refl, ap, sym, ◌∙◌, subst, ℕ, ◌+◌, List, [], ◌∷◌, map, Option, Some, None, Bool, true, false, if◌then◌else◌, Ok, Err}
+use Rattle.std.proofs.Common.{◌≡◌, refl, sym, ◌∙◌, subst, ℕ, ◌+◌, List, [], ◌∷◌, map, Option, Some, None, Bool, true, false, if◌then◌else◌, Ok, Err}
 use Rattle.species_ast.specs.declared.tree.Expr.{Expr}
 use Rattle.species_ast.specs.declared.tree.Value.{Value}
 use Rattle.species_ast.specs.Operators.{Answer, is_true, truth, unary_of, binary_of}

@@ -1,9 +1,8 @@
 -- The body of a joined nest: what it does, sets and adds.
 use Rattle.std.proofs.Common.{◌≡◌, refl, ap, sym, ◌∙◌, subst, ℕ, ◌+◌, List, [], ◌∷◌, ◌++◌, map, flat_map, length, Bool, true, false, ◌&&◌, ◌||◌, Option, inl, inr, ⊎_elim}
-use Rattle.std.specs.Prelude.{not, nat_eq, filter}
+use Rattle.std.specs.Prelude.{nat_eq}
 use Rattle.std.proofs.lemmas.Bool.{cases_Bool}
 use Rattle.std.proofs.lemmas.List.{append-nil, append_assoc}
-use Rattle.species_ast.specs.declared.tree.Loop.{Loop}
 use Rattle.species_ast.specs.declared.tree.Stmt.{Stmt}
 use Rattle.species_ast.specs.declared.tree.Stmt.TheVariants as stmt
 use Rattle.species_ast.specs.declared.tree.Stmt.TheOpen.{Loop-F}
@@ -16,7 +15,7 @@ use Rattle.species_ast.specs.Scope.Meanings.{is_among}
 use Rattle.species_ast.proofs.AccessLaws.{then_do-Ret}
 use Rattle.species_ast.proofs.Folds.{fold_stmt-Block}
 use Rattle.species_ast.proofs.RunLaws.{step-Block, does_list-append, locals-Block}
-use Rattle.species_runs.specs.Every.{Anything, Every, Gives}
+use Rattle.species_runs.specs.Every.{Gives}
 use Rattle.species_runs.specs.Places.{placed, DoSame}
 use Rattle.species_runs.specs.Scopes.{sets_at, sets_of, sets_in, without, outer_locals_set}
 use Rattle.species_runs.proofs.PlaceLaws.{same_body}

@@ -2,7 +2,6 @@
 use Rattle.std.proofs.Common.{◌≡◌, refl, ap, sym, ◌∙◌, subst, ℕ, List, [], ◌∷◌, ◌++◌, map, flat_map, length, ℤ, true, Some, Option, None, ◌+◌}
 use Rattle.std.proofs.lemmas.List.{map-append, length-map}
 use Rattle.species_ast.specs.declared.tree.Loop.{Loop, out-Loop}
-use Rattle.species_ast.specs.declared.tree.Stmt.TheVariants as stmt
 use Rattle.species_ast.specs.declared.tree.Value.{Value}
 use Rattle.species_ast.specs.Marks.{all_true}
 use Rattle.species_ast.specs.Accesses.{Joins, Cells, Tree, Ret, Stop, Read, Write, Add, then_do, Outcome, Ended, Stopped, run}
@@ -16,10 +15,10 @@ use Rattle.species_runs.proofs.EveryLaws.{every_ended, ended_then}
 use Rattle.species_nests.specs.Arrivals.{header, heading}
 use Rattle.species_nests.specs.Effects.{HasQuietHeader, adds_taken}
 use Rattle.species_nests.specs.Meetings.{IsApart, running_traces}
-use Rattle.species_nests.specs.Nests.{Placed, Nest, band, at_once, frames, frames_in, headers, source_iterations, arrays_of, then_all, run_all, traces}
+use Rattle.species_nests.specs.Nests.{Placed, band, at_once, frames, frames_in, headers, source_iterations, arrays_of, then_all, run_all, traces}
 use Rattle.species_nests.proofs.NestLaws.{nest_is, KeepsFrames, keeps_frames, band_ran, headers_are, loops_own}
 use Rattle.bones_commute.specs.Joined.{both, pairs}
-use Rattle.bones_commute.specs.JoinedNests.{SameHeader, SameHeaders, IsSound, AreQuiet, StaysInside, Stands, nest_at, running_of, JoinedEnds, JoinedLoopsRun}
+use Rattle.bones_commute.specs.JoinedNests.{SameHeader, SameHeaders, IsSound, AreQuiet, Stands, nest_at, running_of, JoinedLoopsRun}
 use Rattle.bones_commute.specs.Orderly.{CanBePlayed}
 use Rattle.bones_commute.proofs.BareLaws.{Alike, alike_then, alike_expr}
 use Rattle.bones_commute.proofs.JoinedBodies.{Frames, front_of, joined_iterations, joined_locals, joined_adds, all_fronts, all_placed}

@@ -12,12 +12,11 @@ use Rattle.species_ast.specs.declared.tree.Stmt.TheOpen.{Stmt-F, Loop-F}
 use Rattle.species_ast.specs.declared.tree.Stmt.TheVariants as stmt
 use Rattle.species_ast.specs.declared.tree.Loop.{Loop, roll-Loop, out-Loop}
 use Rattle.species_ast.specs.declared.tree.Mark.TheVariants.{Parallel}
-use Rattle.species_ast.specs.declared.tree.Schedule.{Schedule}
 use Rattle.species_ast.specs.declared.tree.Schedule.TheVariants.{Static}
 use Rattle.species_ast.specs.declared.tree.Test.TheVariants.{Lt}
 use Rattle.species_ast.specs.declared.tree.Unit.{Unit as Program}
 use Rattle.species_ast.specs.Marks.{all_true}
-use Rattle.species_ast.specs.Accesses.{sums, Cells, Element, Direction, Reads, Writes, Adds, Access, access, Site, Ended, run}
+use Rattle.species_ast.specs.Accesses.{sums, Cells, Element, Reads, Writes, Adds, Access, access, Site, Ended, run}
 use Rattle.species_ast.specs.Evaluation.{Frame, Context}
 use Rattle.species_ast.specs.Run.{source_context, first_frame, inside, does_list, sums_take, locals_in}
 use Rattle.species_ast.specs.Scope.Forms.{form_of}
@@ -29,13 +28,12 @@ use Rattle.species_ast.specs.Scope.WellMade.{IsWellMade}
 use Rattle.species_ast.proofs.Folds.{fold_expr-Literal, fold_expr-Iter, fold_stmt-Assign, fold_stmt-AddTo, fold_stmt-For, fold_loop}
 use Rattle.species_ast.proofs.Paras.{para_expr-Literal, para_expr-Iter, para_stmt-Assign, para_stmt-AddTo, para_stmt-For, para_loop}
 use Rattle.species_ast.proofs.RunLaws.{folds, locals}
-use Rattle.species_runs.specs.Scopes.{sets_at, sets_of, sets_in, without, outer_locals_set}
-use Rattle.species_nests.specs.Arrivals.{Running, Comes, ComesIn, ComesTo}
+use Rattle.species_runs.specs.Scopes.{sets_at, sets_of, without, outer_locals_set}
+use Rattle.species_nests.specs.Arrivals.{Running, ComesIn, ComesTo}
 use Rattle.species_nests.specs.Effects.{adds_at, adds_taken}
-use Rattle.species_nests.specs.Meetings.{IsApart, MeetOnlyOn, AddsExactlyOn, Touches, nth, running_traces}
-use Rattle.species_nests.specs.Nests.{nest_of}
+use Rattle.species_nests.specs.Meetings.{IsApart, MeetOnlyOn, AddsExactlyOn, nth, running_traces}
 use Rattle.species_nests.proofs.ApartLaws.{apart_of}
-use Rattle.species_nests.proofs.Inversion.{CameTo, InTurn, came_to, came_in, came_nowhere, out-For}
+use Rattle.species_nests.proofs.Inversion.{CameTo, came_to, came_in, came_nowhere, out-For}
 use Rattle.bones_meaning.specs.Courses.{course_of}
 use Rattle.bones_meaning.specs.Gatherings.{sum_gatherings}
 use Rattle.bones_commute.specs.Orderly.{IsOrderlyRunning, IsOrderly, EveryPlayEnds}

@@ -1,6 +1,6 @@
 -- Laws of what sorts of gatherings join: the order of what is joined does not matter.
-use Rattle.std.proofs.Common.{◌≡◌, refl, ap, sym, ◌∙◌, subst, arith, Bool, true, false, cond, Option, Some, None, ℤ, ◌+ℤ◌}
-use Rattle.std.specs.Prelude.{not, int_lt}
+use Rattle.std.proofs.Common.{◌≡◌, refl, ap, sym, ◌∙◌, arith, Bool, true, false, cond, Option, Some, None, ℤ, ◌+ℤ◌}
+use Rattle.std.specs.Prelude.{int_lt}
 use Rattle.std.specs.Int.{int_min, int_max}
 use Rattle.std.proofs.lemmas.Int.{ints, int_min_is, int_max_is}
 use Rattle.species_ast.specs.declared.tree.Kind.{Kind}
@@ -12,7 +12,7 @@ use Rattle.species_ast.specs.Accesses.{added}
 use Rattle.species_runs.specs.Values.{IsOf}
 use Rattle.species_runs.proofs.ValueLaws.{sums_keep_values}
 use Rattle.species_nests.proofs.SumLaws.{added_trade}
-use Rattle.bones_commute.specs.Sorts.{Sort, Sum, Least, Greatest, int_in, long_in, with_one, extreme, joined_of, takes_kind, sort_in, joins_of, gatherings_of, IsGather, SortsGather, SortsTrade, SortsKeepValues, SortedUnitsPlay}
+use Rattle.bones_commute.specs.Sorts.{Sort, Sum, Least, Greatest, int_in, long_in, with_one, extreme, joined_of, takes_kind, sort_in, joins_of, gatherings_of, SortsGather, SortsTrade, SortsKeepValues, SortedUnitsPlay}
 use Rattle.bones_commute.proofs.UnitLaws.{orderly_units_play}
 
 -- ---- of two numbers one

@@ -1,5 +1,5 @@
 -- Two actions on different elements, two reads, and two additions do the same in either order.
-use Rattle.std.proofs.Common.{◌≡◌, refl, ap, sym, ◌∙◌, map, length, Bool, true, false, Some, inl, inr, ◌⊎◌, ⊎_elim}
+use Rattle.std.proofs.Common.{◌≡◌, refl, ap, sym, ◌∙◌, map, length, Bool, true, false, Some, inl, inr, ⊎_elim}
 use Rattle.std.proofs.lemmas.Bool.{cases_Bool}
 use Rattle.std.specs.Prelude.{if◌then◌else◌, unwrap_or, pos}
 use Rattle.species_ast.specs.declared.action.Action.{Action}

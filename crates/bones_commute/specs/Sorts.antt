@@ -12,7 +12,7 @@ use Rattle.species_ast.specs.Run.{Takes, source_run}
 use Rattle.species_ast.specs.Scope.WellMade.{IsWellMade}
 use Rattle.species_runs.specs.Values.{IsOf, KeepsValues}
 use Rattle.bones_meaning.specs.Courses.{course_of}
-use Rattle.bones_meaning.specs.Gatherings.{Gathering, Gatherings}
+use Rattle.bones_meaning.specs.Gatherings.{Gatherings}
 use Rattle.bones_commute.specs.Orderly.{IsOrderly, EveryPlayEnds, CountsRanks}
 use Rattle.bones_commute.specs.Trades.{Trades}
 
