@@ -1,5 +1,6 @@
 -- What walks through statements and expressions do by their sites is what they do without them.
-use Rattle.std.proofs.Common.{◌≡◌, refl, ap, sym, ◌∙◌, subst, ℕ, zero, suc, ◌+◌, List, [], ◌∷◌, ◌++◌, map, length, Option, Some, None, Bool, true, false, if◌then◌else◌, Ok, Err, ℤ}
+use Rattle.std.proofs.Common.{◌≡◌, refl, ap, sym, ◌∙◌, subst, ℕ, zero, suc, ◌+◌, List, [], ◌∷◌, ◌++◌, map, length, Option, Some, None, Bool, true, false, if◌then◌else◌, Result, Ok, Err, ℤ}
+use Rattle.species_ast.specs.declared.action.Action.{Action}
 use Rattle.species_ast.specs.declared.action.Action.TheVariants as action
 use Rattle.species_ast.specs.declared.tree.Kind.TheVariants as kind
 use Rattle.species_ast.specs.declared.tree.Value.{Value}
@@ -19,7 +20,7 @@ use Rattle.species_ast.specs.declared.trap.Trap.TheVariants as trap
 use Rattle.species_ast.specs.Operators.{Answer, unary_kind, binary_kind, number_of, reduced, joint, converted, is_true, unary_of, binary_of}
 use Rattle.species_ast.specs.Accesses.{Site, Cause, Trapped, Forbidden, Element, Tree, Ret, Stop, Read, Write, Add, then_do}
 use Rattle.species_ast.specs.Evaluation.{Frame, Context, Spot, Sense, sense, trap_of, site_at, array_kind, local_kind, sizes_of, local_of, with_local, answered, known, tested, values_of, elements_in, indices_in, row_order, element_at}
-use Rattle.species_ast.specs.Run.{Step, step, does_list, does_scope, declared_in, cleared, turns, inside, outside, iterator_values, looping, addition, declaring, spot}
+use Rattle.species_ast.specs.Run.{Step, step, does_list, does_scope, declared_in, cleared, turns, inside, outside, iterator_values, looping, addition, initial, declaring, setting, spot}
 use Rattle.species_ast.specs.Evaluation as senses
 use Rattle.species_ast.proofs.Induction.{Each, each_all, expr_ind, stmt_ind}
 use Rattle.species_ast.proofs.Folds.{fold_expr-Literal, fold_expr-Iter, fold_expr-Local, fold_expr-Elem, fold_expr-Unary, fold_expr-Binary, fold_expr-And, fold_expr-Or, fold_expr-Cond, fold_expr-Cast, fold_stmt-Assign, fold_stmt-AddTo, fold_stmt-Declare, fold_stmt-SetLocal, fold_stmt-If, fold_stmt-For, fold_stmt-Block, fold_loop, fold_loop-out}
@@ -27,9 +28,9 @@ use Rattle.species_ast.proofs.RunLaws.{sense-Literal, sense-Iter, sense-Local, s
 use Rattle.species_ast.proofs.AccessLaws.{then_do-assoc}
 use Rattle.species_runs.specs.Walks.{Walk, Met, Past, Came, walk, walk_on}
 use Rattle.species_runs.proofs.WalkLaws.{walk-then_do}
-use Rattle.bones_actions.specs.Tapes.{Tape, tape, passed, Walked, and_then, fault_after, changing, ask, asking}
+use Rattle.bones_actions.specs.Tapes.{Tape, tape, passed, Walked, and_then, fault, fault_after, change, changing, ask, asking}
 use Rattle.bones_actions.specs.Places.{capped, capped_action, placed_in}
-use Rattle.bones_actions.specs.Walked.{Reads, answer_in, known_in, all_given, target, reads_at, reads, Effect, Act, all_done, declared, scope_done, turns_done, summed, initialised, looped, act_at, effect_at, act, scope_effect, loop_effect}
+use Rattle.bones_actions.specs.Walked.{Reads, answer_in, known_in, all_given, target, reads_at, reads, Effect, Act, all_done, declared, scope_done, turns_done, summed, initialised, looped, act_at, effect_at, act, effects, scope_effect, loop_effect}
 
 -- ---- parts
 

@@ -9,7 +9,7 @@ use Rattle.species_ast.specs.declared.tree.Stmt.{Stmt}
 use Rattle.species_ast.specs.declared.tree.Unit.{Unit as Program}
 use Rattle.species_ast.specs.declared.tree.Value.{Value}
 use Rattle.species_ast.specs.declared.tree.Value.TheVariants.{Int}
-use Rattle.species_ast.specs.Accesses.{Tree, Ret, Stop, Read, Write, Add, Access, read_of, write_of, add_of}
+use Rattle.species_ast.specs.Accesses.{Tree, Ret, Stop, Read, Write, Add, Access, acts, read_of, write_of, add_of}
 use Rattle.species_ast.specs.Evaluation.{Frame, Context, product, sizes_of, element_at}
 use Rattle.species_ast.specs.Run.{iteration, actions, source_context, sums_take}
 use Rattle.species_ast.specs.Scope.Limits.{most_elements, has_too_many_dimensions, has_lawful_sizes}
@@ -22,7 +22,7 @@ use Rattle.species_runs.proofs.IndexLaws.{row_below}
 use Rattle.species_runs.proofs.SiteLaws.{sits_scope, each_sits, HasIters}
 use Rattle.species_runs.proofs.WalkLaws.{walk-acts}
 use Rattle.bones_actions.specs.Places.{capped, capped_action}
-use Rattle.bones_actions.specs.Tapes.{Tape, tape, Passed, Walked}
+use Rattle.bones_actions.specs.Tapes.{Tape, tape, Passed, passed, Walked}
 use Rattle.bones_actions.specs.Walked.{context, scope_effect}
 use Rattle.bones_actions.proofs.Law.{seen, scope_walked}
 

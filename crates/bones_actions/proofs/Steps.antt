@@ -1,5 +1,5 @@
 -- How walks through statements go on.
-use Rattle.std.proofs.Common.{◌≡◌, ap, sym, ◌∙◌, subst, arith, w32, ℕ, ◌-◌, ◌<◌, length, take, Option, Some, None, true, false, Result, Ok, Err, ℤ, ◌+ℤ◌}
+use Rattle.std.proofs.Common.{◌≡◌, refl, ap, sym, ◌∙◌, subst, arith, w32, ℕ, ◌-◌, ◌<◌, [], length, take, Option, Some, None, true, false, Result, Ok, Err, ℤ, ◌+ℤ◌}
 use Rattle.std.specs.Prelude.{FitsSigned}
 use Rattle.species_ast.specs.declared.action.Action.{Action}
 use Rattle.species_ast.specs.declared.tree.Value.{Value}
