@@ -3,7 +3,7 @@ use Rattle.std.proofs.Common.{◌≡◌, ◌∙◌, refl, sym, ap, arith, add-on
 use Rattle.std.specs.Prelude.{not, slice_index_or}
 use Rattle.std.specs.List.{flat_map}
 use Rattle.species_ast.specs.declared.tree.Array.{Array}
-use Rattle.species_ast.specs.Scope.Refusals.{Limit, Refusal, Finding, refused_at, places_where}
+use Rattle.species_ast.specs.Scope.Refusals.{Limit, Refusal, Finding, refused_at}
 use Rattle.species_ast.specs.Scope.Limits.{has_too_many_dimensions, has_lawful_sizes}
 use Rattle.species_ast.specs.Scope.Programs.{Program, ArraySite}
 use Rattle.species_ast.specs.Scope.Conditions.{too_many_elements, refused_arrays}

@@ -11,6 +11,7 @@ use species_ast::Array;
 use species_names::{Findings, Limit, Refusal};
 
 const MOST_DIMENSIONS: usize = 4;
+
 const MOST_ELEMENTS: u64 = 16777216;
 
 /// Notes what is refused of arrays, each at the place of its name.

@@ -79,7 +79,9 @@ fn walk(
             Ok(())
         }
         Stmt::If {
-            body, otherwise, ..
+            body,
+            otherwise,
+            ..
         } => {
             walk_all(alloc, body.as_slice(), at, path, limits)?;
             walk_all(alloc, otherwise.as_slice(), at, path, limits)?;

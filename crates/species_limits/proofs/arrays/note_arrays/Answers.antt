@@ -1,4 +1,4 @@
-use Rattle.std.proofs.Common.{◌≡◌, ◌∙◌, ◌<◌, length, ap, sym, arith, slice_index_or}
+use Rattle.std.proofs.Common.{◌∙◌, ◌<◌, length, ap, sym, arith, slice_index_or}
 use Rattle.species_limits.proofs.ArrayFindings.{arrays_next}
 use Rattle.species_limits.proofs.arrays.note_arrays.Goals as goal
 

@@ -1,5 +1,4 @@
-use Rattle.std.proofs.Common.{◌≡◌, ◌∙◌, ap, None, Option}
-use Rattle.species_ast.specs.Scope.Refusals.{Finding}
+use Rattle.std.proofs.Common.{◌∙◌, ap, None}
 use Rattle.species_names.specs.Kept.{kept}
 use Rattle.species_limits.specs.Found.{arrays_found}
 use Rattle.species_limits.proofs.LimitLaws.{first_is}

@@ -1,4 +1,4 @@
-use Rattle.std.proofs.Common.{◌≡◌, ◌∙◌, ◌+◌, ap, sym, subst, map, length}
+use Rattle.std.proofs.Common.{◌∙◌, ◌+◌, ap, sym, subst, map, length}
 use Rattle.species_ast.specs.declared.tree.Loop.{out-Loop}
 use Rattle.species_ast.specs.Scope.Loops.{numbered, standing_in, list_loops, loops_at, loops_inside, loops_in}
 use Rattle.species_ast.proofs.Paras.{para_stmt-Assign, para_stmt-AddTo, para_stmt-Declare, para_stmt-SetLocal}

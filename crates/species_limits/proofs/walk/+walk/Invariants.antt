@@ -7,5 +7,5 @@ use Rattle.species_limits.proofs.walk.+walk.Given as goal
 abbrev pub invariant-walk_all-loop-stmt : goal.invariant-walk_all-loop-stmt
 invariant-walk_all-loop-stmt l = record {
   same : l.path ≡ l.initial.path;
-  found : (s : Standing) (k : ℕ) → StandsAt l.at l.initial.path s → l.limits ≡ found_of l.initial.limits (list_loops (map loops_in (take l.stmt-index l.all)) s k)
+  found : (s : Standing) (k : ℕ) → StandsAt l.at l.initial.path s → l.limits ≡ found_of l.initial.limits (list_loops (map loops_in (take l.stmt-index l.all)) s k);
 }
