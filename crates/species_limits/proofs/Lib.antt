@@ -1,0 +1,5 @@
+mod ProductLaws
+pub mod ArrayFindings
+pub mod LoopFindings
+mod WalkLaws
+pub mod LimitLaws
