@@ -1,3 +1,4 @@
 pub mod TableLaws
 pub mod KeptLaws
 pub mod JoinLaws
+mod CountLaws

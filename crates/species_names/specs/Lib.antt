@@ -5,3 +5,4 @@ pub mod Kept
 pub mod Refused
 pub mod Noted
 pub mod Inside
+pub mod Counted
