@@ -37,7 +37,7 @@ globals_fit its before n (a ∷ parts) s w hn all h =
     let m = Meaning.Array n (length a.sizes) in
     let later = globals_from (suc n) parts (scope_with a.name m s) in
     let there : slice_get w.arrays n ≡ Some array =
-        ap (λ xs. slice_get xs n) all ∙ ap (slice_get (before ++ array ∷ arrays_in later)) hn ∙ get_behind before (arrays_in later) array in
+    ap (λ xs. slice_get xs n) all ∙ ap (slice_get (before ++ array ∷ arrays_in later)) hn ∙ get_behind before (arrays_in later) array in
     let long : length array.dims ≡ length a.sizes = length-map sizes (λ x. extent x.number) ∙ length-map a.sizes (size_in s) in
     globals_fit its (before ++ array ∷ []) (suc n) parts (scope_with a.name m s) w
     (one_more n (length before) (length (before ++ array ∷ [])) hn (length-append before (array ∷ [])))

@@ -216,10 +216,10 @@ declarator_makes site k l its s w h good sites = go (is_among s.iterators s.seri
         let v = record w { locals = n ∷ w.locals } in
         let m = fold_stmt-Declare made_at made_loop l.name.place (local_number s s.serials) (init_expr l.init inner) in
         let holds : list_holds (map made kept.statements) w ≡ true =
-            and_from _ _ (ap (λ k. k.holds w) m ∙ ap (λ z. init_holds (record w { locals = z ∷ w.locals }) (init_expr l.init inner)) number
-            ∙ init_made l.init its inner v (fits_kept its l.name x s w h) (and_parts (is_good its (occurrence Declared s l.name)) _ g).1) refl in
+        and_from _ _ (ap (λ k. k.holds w) m ∙ ap (λ z. init_holds (record w { locals = z ∷ w.locals }) (init_expr l.init inner)) number
+        ∙ init_made l.init its inner v (fits_kept its l.name x s w h) (and_parts (is_good its (occurrence Declared s l.name)) _ g).1) refl in
         let numbers : locals_in kept.statements ≡ n ∷ [] =
-            ap (λ ls. ls ++ []) (locals-Declare l.name.place (local_number s s.serials) (init_expr l.init inner)) ∙ ap (λ z. z ∷ []) number in
+        ap (λ ls. ls ++ []) (locals-Declare l.name.place (local_number s s.serials) (init_expr l.init inner)) ∙ ap (λ z. z ∷ []) number in
         record {
           statements = holds;
           body = holds;

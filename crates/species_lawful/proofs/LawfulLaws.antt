@@ -191,7 +191,7 @@ well_made u written lawful =
     let limits = first_empty (refused_arrays p) _ fine.limits in
     let names : length p.names ≤ most_bytes = of_sum (length p.names) (sum (map statements_in u.body)) most_bytes written.small in
     let all_names : length p.names ≡ length g.names + suc (length inner.notes.names) =
-        ap (λ (os : List Occurrence). length os) (same_names u [] its) ∙ length-append g.names (occurrence Declared g.next u.function ∷ inner.notes.names) in
+    ap (λ (os : List Occurrence). length os) (same_names u [] its) ∙ length-append g.names (occurrence Declared g.next u.function ∷ inner.notes.names) in
     record {
       few_arrays = few _ (length p.names)
           (subst (λ z. length p.unit.arrays ≤ z) (sym all_names)

@@ -104,14 +104,14 @@ in_order_makes site (p ∷ ps) all its s w h good sites =
     let a = all.0 its s w h g.0 l.0 in
     let b = in_order_makes site ps all.1 its first.next (behind_all first.statements w) a.next g.1 l.1 in
     let holds : list_holds (map made (first.statements ++ rest.statements)) w ≡ true =
-        ap (λ ms. list_holds ms w) (map-append made first.statements rest.statements)
-        ∙ holds_append (map made first.statements) (map made rest.statements) w ∙ and_from _ _ a.statements b.statements in
+    ap (λ ms. list_holds ms w) (map-append made first.statements rest.statements)
+    ∙ holds_append (map made first.statements) (map made rest.statements) w ∙ and_from _ _ a.statements b.statements in
     let long = length-append first.notes.locals rest.notes.locals in
     let numbers : locals_in (first.statements ++ rest.statements) ≡ from (count_before its s.serials) (length (first.notes.locals ++ rest.notes.locals)) =
-        locals_append first.statements rest.statements
-        ∙ (λ i. a.numbers i ++ (b.numbers ∙ ap (λ z. from z (length rest.notes.locals)) a.count) i)
-        ∙ sym (from_more (count_before its s.serials) (length first.notes.locals) (length rest.notes.locals))
-        ∙ ap (from (count_before its s.serials)) (sym long) in
+    locals_append first.statements rest.statements
+    ∙ (λ i. a.numbers i ++ (b.numbers ∙ ap (λ z. from z (length rest.notes.locals)) a.count) i)
+    ∙ sym (from_more (count_before its s.serials) (length first.notes.locals) (length rest.notes.locals))
+    ∙ ap (from (count_before its s.serials)) (sym long) in
     record {
       statements = holds;
       body = holds;

@@ -74,6 +74,7 @@ block_holds ps more its s w h good sites =
       count = a.count;
       few = a.few;
     }
+
 -- ---- branches
 
 add_few : (names a b c d : ℕ) → a ≤ c → b ≤ d → a + b ≤ names + (c + d)
@@ -98,11 +99,11 @@ if_holds p test body otherwise hb ho its s w h good sites =
     let n = count_before its s.serials in
     let long = length-append first.notes.locals second.notes.locals in
     let holds : list_holds (map made ((if_fragment p (reading test) body (Some otherwise) s).statements)) w ≡ true =
-        and_from _ _ (ap (λ k. k.holds w) m ∙ and_from _ _ (expr_made test its s w h g.0) (and_from _ _ a.body b.body)) refl in
+    and_from _ _ (ap (λ k. k.holds w) m ∙ and_from _ _ (expr_made test its s w h g.0) (and_from _ _ a.body b.body)) refl in
     let numbers : locals_in ((if_fragment p (reading test) body (Some otherwise) s).statements) ≡ from n (length (first.notes.locals ++ second.notes.locals)) =
-        one_list _ _ (locals-If p condition.expr first.body second.body)
-        ∙ (λ i. a.body_numbers i ++ (b.body_numbers ∙ ap (λ z. from z (length second.notes.locals)) a.count) i)
-        ∙ sym (from_more n (length first.notes.locals) (length second.notes.locals)) ∙ ap (from n) (sym long) in
+    one_list _ _ (locals-If p condition.expr first.body second.body)
+    ∙ (λ i. a.body_numbers i ++ (b.body_numbers ∙ ap (λ z. from z (length second.notes.locals)) a.count) i)
+    ∙ sym (from_more n (length first.notes.locals) (length second.notes.locals)) ∙ ap (from n) (sym long) in
     record {
       statements = holds;
       body = holds;
@@ -175,13 +176,13 @@ loop_holds l deep hb p its s w h good sites =
     } in
     let m = fold_stmt-For made_at made_loop (roll-Loop layer) ∙ fold_loop made_at made_loop layer in
     let holds : list_holds (map made ((loop_at l p s).statements)) w ≡ true =
-        and_from _ _ (ap (λ k. k.holds w) m ∙ and_from _ _
-        (and_from _ _ (start_made w s.level start.expr h.level forms.0 (expr_made l.start its s w h g1.0))
-        (and_from _ _ (limit_made w s.level limit.expr h.level later.0 (expr_made l.limit its u v fit g2.0))
-        (and_from _ _ (step_goes l.test by.number later.1) (depth_of l.parallel deep))))
-        a.body) refl in
+    and_from _ _ (ap (λ k. k.holds w) m ∙ and_from _ _
+    (and_from _ _ (start_made w s.level start.expr h.level forms.0 (expr_made l.start its s w h g1.0))
+    (and_from _ _ (limit_made w s.level limit.expr h.level later.0 (expr_made l.limit its u v fit g2.0))
+    (and_from _ _ (step_goes l.test by.number later.1) (depth_of l.parallel deep))))
+    a.body) refl in
     let numbers : locals_in ((loop_at l p s).statements) ≡ from (count_before its s.serials) (length body.notes.locals) =
-        one_list _ _ (locals-For layer) ∙ a.body_numbers in
+    one_list _ _ (locals-For layer) ∙ a.body_numbers in
     record {
       statements = holds;
       body = holds;

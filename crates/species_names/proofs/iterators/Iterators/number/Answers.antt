@@ -10,7 +10,7 @@ overflow_add-result c =
     let size = c.len-last.result in
     let long : c.len-last.result ≡ length c.self.inside.before.items = search rules in
     let count : found + (c.args.serial - (size - 1)) ≡ count_before its c.args.serial =
-        looked_up its c.self.inside.before.items c.args.serial size found c.self.invariant long c.if-n-last.false c.index-else-n-last.ensures in
+    looked_up its c.self.inside.before.items c.args.serial size found c.self.invariant long c.if-n-last.false c.index-else-n-last.ensures in
     let most : found + (c.args.serial - (size - 1)) ≤ c.args.serial = subst (λ n. n ≤ c.args.serial) (sym count) (count_most its c.args.serial) in
     search rules
 
