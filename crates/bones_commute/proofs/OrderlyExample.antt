@@ -29,11 +29,11 @@ use Rattle.species_ast.proofs.Folds.{fold_expr-Literal, fold_expr-Iter, fold_stm
 use Rattle.species_ast.proofs.Paras.{para_expr-Literal, para_expr-Iter, para_stmt-Assign, para_stmt-AddTo, para_stmt-For, para_loop}
 use Rattle.species_ast.proofs.RunLaws.{folds, locals}
 use Rattle.species_runs.specs.Scopes.{sets_at, sets_of, without, outer_locals_set}
-use Rattle.species_nests.specs.Arrivals.{Running, ComesIn, ComesTo}
+use Rattle.species_nests.specs.Arrivals.{Running, moment, ComesIn, ComesTo}
 use Rattle.species_nests.specs.Effects.{adds_at, adds_taken}
 use Rattle.species_nests.specs.Meetings.{IsApart, MeetOnlyOn, AddsExactlyOn, nth, running_traces}
 use Rattle.species_nests.proofs.ApartLaws.{apart_of}
-use Rattle.species_nests.proofs.Inversion.{CameTo, came_to, came_in, came_nowhere, out-For}
+use Rattle.species_nests.proofs.Inversion.{CameTo, came_to, reached_in, reached_nowhere, out-For}
 use Rattle.bones_meaning.specs.Courses.{course_of}
 use Rattle.bones_meaning.specs.Gatherings.{sum_gatherings}
 use Rattle.bones_commute.specs.Orderly.{IsOrderlyRunning, IsOrderly, EveryPlayEnds}
@@ -190,16 +190,16 @@ no_loop_inside w r around at f m c = ⊎_elim
     (λ b. ⊎_elim
     (λ h. subst (λ x. CameTo sums w r x around (at ++ 1 ∷ []) b.frame b.arrays) (out-AddTo 30 1 (expr.Literal (Int (pos 0)) ∷ []) (expr.Literal (Int (pos 1))) true)
     (came_to sums w r _ around (at ++ 1 ∷ []) b.frame b.arrays h))
-    (λ d. came_nowhere sums w r around at 2 d.frame d.arrays d.inner)
-    (came_in sums w r _ _ around at 1 b.frame b.arrays b.inner))
-    (came_in sums w r _ _ around at 0 f m c)
+    (λ d. reached_nowhere sums w (moment r) around at 2 d.frame d.arrays d.inner)
+    (reached_in sums w (moment r) _ _ around at 1 b.frame b.arrays b.inner))
+    (reached_in sums w (moment r) _ _ around at 0 f m c)
 
 only_running : (r : Running) → ComesTo sums unit start r → running ≡ r
 only_running r c = ⊎_elim
     (λ h. ⊎_elim (λ e. e) (λ t. absurd (no_loop_inside context r (loop ∷ []) (0 ∷ []) (inside t.frame t.i) t.arrays t.inner))
     (subst (λ x. CameTo sums context r x [] (0 ∷ []) (first_frame unit) start) (out-For loop) (came_to sums context r (stmt.For loop) [] (0 ∷ []) (first_frame unit) start h)))
-    (λ b. absurd (came_nowhere sums context r [] [] 1 b.frame b.arrays b.inner))
-    (came_in sums context r (stmt.For loop) [] [] [] 0 (first_frame unit) start c)
+    (λ b. absurd (reached_nowhere sums context (moment r) [] [] 1 b.frame b.arrays b.inner))
+    (reached_in sums context (moment r) (stmt.For loop) [] [] [] 0 (first_frame unit) start c)
 
 pub unit_orderly : IsOrderly sums sum_gatherings unit start
 unit_orderly = record {

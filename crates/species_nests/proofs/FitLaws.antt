@@ -23,7 +23,7 @@ use Rattle.species_runs.specs.Scopes.{HasOnly, AreApart, FitIn}
 use Rattle.species_runs.proofs.EveryLaws.{every_ended}
 use Rattle.species_runs.proofs.FrameLaws.{AllMay, all_in, leaves_frame}
 use Rattle.species_runs.proofs.ScopeLaws.{or_false, both_false, and_true, never_both, out_both, body_keeps_scope, keeps_scope, turns_keep_scope, same_declares}
-use Rattle.species_nests.specs.Arrivals.{turn_of, Running, Comes, here, in_turn, in_body, in_otherwise, in_block, ComesIn, first, later, ComesTo}
+use Rattle.species_nests.specs.Arrivals.{turn_of, Moment, Reaches, here, in_turn, in_body, in_otherwise, in_block, ReachesIn, first, later, Begins, Running, moment, ComesTo}
 
 -- ---- each local is declared once
 
@@ -248,36 +248,39 @@ rest_fits c w x xs f g fit only = record {
   only = only;
 }
 
--- ---- runnings
+-- ---- moments and runnings
 
--- the loop of a running fits where it is run
+-- the statement that begins fits there
+abbrev pub MomentFits : Moment → Type 0
+MomentFits q = (w : Around) × FitsAt w q.statement q.frame
+
 abbrev pub RunningFits : Running → Type 0
-RunningFits r = (w : Around) × FitsAt w (stmt.For r.loop) r.frame
+RunningFits r = MomentFits (moment r)
 
 mutual
-  comes_fit : (join : Joins) (c : Context) (r : Running) (x : Stmt) (around : List Loop) (at : List ℕ) (f : Frame) (m : Cells) → Comes join c r x around at f m
-      → (w : Around) → FitsAt w x f → RunningFits r
-  comes_fit join c r x around at f m here w fit = (w, fit)
-  comes_fit join c r x around at f m (in_turn l _ _ _ g _ begun n before i behind is ended inner) w fit =
+  reaches_fit : (join : Joins) (c : Context) (q : Moment) (x : Stmt) (around : List Loop) (at : List ℕ) (f : Frame) (m : Cells) → Reaches join c q x around at f m
+      → (w : Around) → FitsAt w x f → MomentFits q
+  reaches_fit join c q x around at f m here w fit = (w, fit)
+  reaches_fit join c q x around at f m (in_turn l _ _ _ g _ begun n before i behind is ended inner) w fit =
       let body = body_fits w l f fit in
       let only = every_ended join Anything (HasOnly w.locals) (turns before (turn_of c l at) f) begun g n
-      (turns_keep_scope w.locals before (turn_of c l at) (λ h q. body_keeps_scope c (out-Loop l).body (deeper w) body.holds at 0 h q) f fit.only) ended in
-      comes_in_fit join c r (out-Loop l).body (around ++ l ∷ []) at 0 (inside g i) n inner (deeper w)
+      (turns_keep_scope w.locals before (turn_of c l at) (λ h p. body_keeps_scope c (out-Loop l).body (deeper w) body.holds at 0 h p) f fit.only) ended in
+      reaches_in_fit join c q (out-Loop l).body (around ++ l ∷ []) at 0 (inside g i) n inner (deeper w)
       (record { holds = body.holds; once = body.once; apart = body.apart; only = only })
-  comes_fit join c r x around at f m (in_body place test body otherwise _ _ _ _ n v is taken inner) w fit =
-      comes_in_fit join c r body around at 0 f n inner w (branches_fit w place test body otherwise f fit).0
-  comes_fit join c r x around at f m (in_otherwise place test body otherwise _ _ _ _ n v is taken inner) w fit =
-      comes_in_fit join c r otherwise around at (length body) f n inner w (branches_fit w place test body otherwise f fit).1
-  comes_fit join c r x around at f m (in_block body _ _ _ _ inner) w fit = comes_in_fit join c r body around at 0 f m inner w (block_fits w body f fit)
+  reaches_fit join c q x around at f m (in_body place test body otherwise _ _ _ _ n v is taken inner) w fit =
+      reaches_in_fit join c q body around at 0 f n inner w (branches_fit w place test body otherwise f fit).0
+  reaches_fit join c q x around at f m (in_otherwise place test body otherwise _ _ _ _ n v is taken inner) w fit =
+      reaches_in_fit join c q otherwise around at (length body) f n inner w (branches_fit w place test body otherwise f fit).1
+  reaches_fit join c q x around at f m (in_block body _ _ _ _ inner) w fit = reaches_in_fit join c q body around at 0 f m inner w (block_fits w body f fit)
 
-  comes_in_fit : (join : Joins) (c : Context) (r : Running) (xs : List Stmt) (around : List Loop) (at : List ℕ) (k : ℕ) (f : Frame) (m : Cells) → ComesIn join c r xs around at k f m
-      → (w : Around) → FitsInList w xs f → RunningFits r
-  comes_in_fit join c r xs around at k f m (first x rest _ _ _ _ _ inner) w fit = comes_fit join c r x around (at ++ k ∷ []) f m inner w (first_fits w x rest f fit)
-  comes_in_fit join c r xs around at k f m (later x rest _ _ _ _ g _ n ended inner) w fit =
+  reaches_in_fit : (join : Joins) (c : Context) (q : Moment) (xs : List Stmt) (around : List Loop) (at : List ℕ) (k : ℕ) (f : Frame) (m : Cells) → ReachesIn join c q xs around at k f m
+      → (w : Around) → FitsInList w xs f → MomentFits q
+  reaches_in_fit join c q xs around at k f m (first x rest _ _ _ _ _ inner) w fit = reaches_fit join c q x around (at ++ k ∷ []) f m inner w (first_fits w x rest f fit)
+  reaches_in_fit join c q xs around at k f m (later x rest _ _ _ _ g _ n ended inner) w fit =
       let here = first_fits w x rest f fit in
       let only = every_ended join Anything (HasOnly ((made x).declares ++ w.locals)) ((step c x).does (at ++ k ∷ []) f) m g n
       (keeps_scope c x w here.holds (at ++ k ∷ []) f fit.only) ended in
-      comes_in_fit join c r rest around at (suc k) g n inner (next w x) (rest_fits c w x rest f g fit only)
+      reaches_in_fit join c q rest around at (suc k) g n inner (next w x) (rest_fits c w x rest f g fit only)
 
 pub no_values : (ls : List LocalInfo) (x : ℕ) → unwrap_or (slice_get (map (λ (l : LocalInfo). let o : Option Value = None in o) ls) x) None ≡ None
 no_values [] x = refl
@@ -285,14 +288,17 @@ no_values (l ∷ ls) zero = refl
 no_values (l ∷ ls) (suc x) = no_values ls x
 
 -- the law
-pub running_fits : (join : Joins) (u : Program) (m : Cells) (r : Running) → IsWellMade u → ComesTo join u m r → RunningFits r
-running_fits join u m r well_made comes =
-    comes_in_fit join (source_context u) r u.body [] [] 0 (first_frame u) m comes (outermost u) (record {
+pub moment_fits : (join : Joins) (u : Program) (m : Cells) (q : Moment) → IsWellMade u → Begins join u m q → MomentFits q
+moment_fits join u m q well_made begins =
+    reaches_in_fit join (source_context u) q u.body [] [] 0 (first_frame u) m begins (outermost u) (record {
       holds = well_made.body;
       once = declared_once (length u.locals) (locals_in u.body) well_made.locals;
       apart = λ y there. refl;
       only = λ x out. no_values u.locals x;
     })
+
+pub running_fits : (join : Joins) (u : Program) (m : Cells) (r : Running) → IsWellMade u → ComesTo join u m r → RunningFits r
+running_fits join u m r well_made comes = moment_fits join u m (moment r) well_made comes
 
 -- the body of the loop
 pub fit_body : (r : Running) → RunningFits r → FitIn (out-Loop r.loop).body r.frame

@@ -1,4 +1,4 @@
--- What goes over from statements to those in them holds of each loop to which a run comes, and of the body of its nest.
+-- What goes over from statements to those in them holds of each statement to which a run comes, and of the body of a nest.
 use Rattle.std.proofs.Common.{◌≡◌, refl, ap, sym, ◌∙◌, subst, ℕ, zero, suc, List, [], ◌∷◌, ◌++◌, map, length, Bool, true, Option, Some, None}
 use Rattle.std.specs.List.{list_all}
 use Rattle.species_ast.specs.declared.tree.Expr.{Expr}
@@ -17,7 +17,7 @@ use Rattle.species_ast.proofs.IterationLaws.{stays}
 use Rattle.species_ast.proofs.Paras.{para_stmt-Assign, para_stmt-AddTo, para_stmt-Declare, para_stmt-SetLocal, para_stmt-If}
 use Rattle.species_runs.specs.Scopes.{outer_locals_set}
 use Rattle.species_runs.proofs.ScopeLaws.{and_true}
-use Rattle.species_nests.specs.Arrivals.{Running, Comes, here, in_turn, in_body, in_otherwise, in_block, ComesIn, first, later, ComesTo}
+use Rattle.species_nests.specs.Arrivals.{Moment, Reaches, here, in_turn, in_body, in_otherwise, in_block, ReachesIn, first, later, Running, moment, ComesTo}
 use Rattle.species_nests.specs.Effects.{adds_at, adds_taken, AddsTaken}
 use Rattle.species_nests.specs.Nests.{Placed, sole_at, sole, only, nest_in, nest_of}
 use Rattle.species_nests.proofs.NestLaws.{under, no_loops, not_some, sole-For, sole-Block}
@@ -29,23 +29,23 @@ pub record GoesInward (P : Stmt → Type 0) : Type 0 where
   pub choice : (place : ℕ) (test : Expr) (body otherwise : List Stmt) → P (stmt.If place test body otherwise) → Each P body × Each P otherwise
   pub block : (body : List Stmt) → P (stmt.Block body) → Each P body
 
--- ---- to the loops to which a run comes
+-- ---- to the statements to which a run comes
 
 mutual
-  pub comes_has : (join : Joins) (P : Stmt → Type 0) → GoesInward P → (c : Context) (r : Running) (x : Stmt) (around : List Loop) (at : List ℕ) (f : Frame) (m : Cells)
-      → Comes join c r x around at f m → P x → P (stmt.For r.loop)
-  comes_has join P goes c r x around at f m here h = h
-  comes_has join P goes c r x around at f m (in_turn l _ _ _ g _ begun n before i behind is ended inner) h = comes_in_has join P goes c r (out-Loop l).body (around ++ l ∷ []) at 0 _ n inner (goes.loop l h)
-  comes_has join P goes c r x around at f m (in_body place test body otherwise _ _ _ _ n v is taken inner) h =
-      comes_in_has join P goes c r body around at 0 f n inner (goes.choice place test body otherwise h).0
-  comes_has join P goes c r x around at f m (in_otherwise place test body otherwise _ _ _ _ n v is taken inner) h =
-      comes_in_has join P goes c r otherwise around at (length body) f n inner (goes.choice place test body otherwise h).1
-  comes_has join P goes c r x around at f m (in_block body _ _ _ _ inner) h = comes_in_has join P goes c r body around at 0 f m inner (goes.block body h)
+  pub reaches_has : (join : Joins) (P : Stmt → Type 0) → GoesInward P → (c : Context) (q : Moment) (x : Stmt) (around : List Loop) (at : List ℕ) (f : Frame) (m : Cells)
+      → Reaches join c q x around at f m → P x → P q.statement
+  reaches_has join P goes c q x around at f m here h = h
+  reaches_has join P goes c q x around at f m (in_turn l _ _ _ g _ begun n before i behind is ended inner) h = reaches_in_has join P goes c q (out-Loop l).body (around ++ l ∷ []) at 0 _ n inner (goes.loop l h)
+  reaches_has join P goes c q x around at f m (in_body place test body otherwise _ _ _ _ n v is taken inner) h =
+      reaches_in_has join P goes c q body around at 0 f n inner (goes.choice place test body otherwise h).0
+  reaches_has join P goes c q x around at f m (in_otherwise place test body otherwise _ _ _ _ n v is taken inner) h =
+      reaches_in_has join P goes c q otherwise around at (length body) f n inner (goes.choice place test body otherwise h).1
+  reaches_has join P goes c q x around at f m (in_block body _ _ _ _ inner) h = reaches_in_has join P goes c q body around at 0 f m inner (goes.block body h)
 
-  pub comes_in_has : (join : Joins) (P : Stmt → Type 0) → GoesInward P → (c : Context) (r : Running) (xs : List Stmt) (around : List Loop) (at : List ℕ) (k : ℕ) (f : Frame) (m : Cells)
-      → ComesIn join c r xs around at k f m → Each P xs → P (stmt.For r.loop)
-  comes_in_has join P goes c r xs around at k f m (first x rest _ _ _ _ _ inner) h = comes_has join P goes c r x around (at ++ k ∷ []) f m inner h.0
-  comes_in_has join P goes c r xs around at k f m (later x rest _ _ _ _ g _ n ended inner) h = comes_in_has join P goes c r rest around at (suc k) g n inner h.1
+  pub reaches_in_has : (join : Joins) (P : Stmt → Type 0) → GoesInward P → (c : Context) (q : Moment) (xs : List Stmt) (around : List Loop) (at : List ℕ) (k : ℕ) (f : Frame) (m : Cells)
+      → ReachesIn join c q xs around at k f m → Each P xs → P q.statement
+  reaches_in_has join P goes c q xs around at k f m (first x rest _ _ _ _ _ inner) h = reaches_has join P goes c q x around (at ++ k ∷ []) f m inner h.0
+  reaches_in_has join P goes c q xs around at k f m (later x rest _ _ _ _ g _ n ended inner) h = reaches_in_has join P goes c q rest around at (suc k) g n inner h.1
 
 -- ---- to the body of a nest
 
@@ -83,7 +83,7 @@ nest_in_has_body P goes (suc d) body at all = go (λ body at all. nest_in_has_bo
 pub nest_has_body : (join : Joins) (P : Stmt → Type 0) → GoesInward P → (u : Program) (m : Cells) (d : ℕ) (r : Running) → ComesTo join u m r → Each P u.body
     → Each P (nest_of d r.loop r.at).body
 nest_has_body join P goes u m d r comes all =
-    let loop = comes_in_has join P goes (source_context u) r u.body [] [] 0 _ m comes all in
+    let loop = reaches_in_has join P goes (source_context u) (moment r) u.body [] [] 0 _ m comes all in
     nest_in_has_body P goes d (out-Loop r.loop).body r.at (goes.loop r.loop loop)
 
 -- ---- atomic additions

@@ -12,9 +12,9 @@ use Rattle.species_ast.specs.Scope.Loops.{PlacedLoop, Standing, Placing, standin
 use Rattle.species_ast.specs.Scope.Loops as placed
 use Rattle.species_ast.proofs.Induction.{Each, each_all, stmt_ind}
 use Rattle.species_ast.proofs.Paras.{para_stmt-Assign, para_stmt-AddTo, para_stmt-Declare, para_stmt-SetLocal, para_stmt-For}
-use Rattle.species_nests.specs.Arrivals.{Running, ComesTo}
+use Rattle.species_nests.specs.Arrivals.{Running, moment, ComesTo}
 use Rattle.species_nests.specs.Nests.{loops_at, loops_of, loops_in}
-use Rattle.species_nests.proofs.InwardLaws.{GoesInward, comes_in_has}
+use Rattle.species_nests.proofs.InwardLaws.{GoesInward, reaches_in_has}
 use Rattle.species_nests.proofs.NestLaws.{body_loops, each-append, loops-Block, loops-If, loops-For}
 use Rattle.species_occurrences.specs.Nesting.{PlacedLoopsAreLoops, RunningsAreLoops}
 use Rattle.species_occurrences.proofs.PositionLaws.{each_weaker, loops_in-Assign, loops_in-AddTo, loops_in-Declare, loops_in-SetLocal, loops_in-If, loops_in-For, loops_in-Block}
@@ -81,7 +81,7 @@ all_inward P = record {
 -- What holds of each loop of a unit holds of each to which its run comes.
 pub runnings_have : (join : Joins) (P : Loop → Type 0) (u : Program) (m : Cells) (r : Running) → ComesTo join u m r → Each P (loops_in u.body) → P r.loop
 runnings_have join P u m r comes all =
-    let there : Each P (loops_of (stmt.For r.loop)) = comes_in_has join (AreAll P) (all_inward P) (source_context u) r u.body [] [] 0 (first_frame u) m comes (each_split P u.body all) in
+    let there : Each P (loops_of (stmt.For r.loop)) = reaches_in_has join (AreAll P) (all_inward P) (source_context u) (moment r) u.body [] [] 0 (first_frame u) m comes (each_split P u.body all) in
     (subst (Each P) (para_stmt-For loops_at body_loops r.loop) there).0
 
 -- each element is one of the list

@@ -14,7 +14,7 @@ use Rattle.species_ast.specs.Scope.Hulls.{Range}
 use Rattle.species_ast.specs.Scope.Loops.{placed_loops}
 use Rattle.species_ast.specs.Scope.References.{Reference, references_of}
 use Rattle.species_ast.specs.Scope.WellMade.{IsWellMade}
-use Rattle.species_nests.specs.Arrivals.{Running, ComesTo}
+use Rattle.species_nests.specs.Arrivals.{Moment, Begins, Running, ComesTo}
 use Rattle.species_nests.specs.Meetings.{Ran, iterations_in}
 use Rattle.species_nests.specs.Nests.{nest_of}
 use Rattle.species_occurrences.specs.Iterators.{AreInts, AreTaken, AreTheirs, ranges_of}
@@ -33,9 +33,9 @@ abbrev pub AffineHaveTheirForms : Type 0
 AffineHaveTheirForms = (join : Joins) (w : Context) (x : Expr) (form : Form) (s : Spot) (n : ℕ) (f : Frame) (m : Cells) (v : Value) (last : Cells)
     → form_of x ≡ Some form → AreInts f.iters → run join ((sense w x).does s n f) m ≡ Ended v last → v ≡ Int (form_value form f.iters)
 
--- Where a run of a well made unit comes to a loop, the iterators in force are values that the loops around it take ..
-abbrev pub RunningsAreTaken : Type 0
-RunningsAreTaken = (join : Joins) (u : Program) (m : Cells) (r : Running) → IsWellMade u → ComesTo join u m r → AreTheirs r.around r.frame.iters
+-- Where a statement begins in a run of a well made unit, the iterators in force are values that the loops around it take.
+abbrev pub MomentsAreTaken : Type 0
+MomentsAreTaken = (join : Joins) (u : Program) (m : Cells) (q : Moment) → IsWellMade u → Begins join u m q → AreTheirs q.around q.frame.iters
 
 -- ---- iterations
 

@@ -4,7 +4,7 @@
 //! here runs.
 #![tactic(auto)]
 
-ghost use Rattle.species_occurrences.specs.Law.{AccessesAreMade, AffineHaveTheirForms, IterationsAreMade, RunningsAreTaken};
+ghost use Rattle.species_occurrences.specs.Law.{AccessesAreMade, AffineHaveTheirForms, IterationsAreMade, MomentsAreTaken};
 
 /// In each run of a well made unit every access inside a loop is made by one of the loop's
 /// references, affine expressions give the values of their forms, and iterators lie in their ranges.
@@ -13,6 +13,6 @@ ghost use Rattle.species_occurrences.specs.Law.{AccessesAreMade, AffineHaveTheir
 pub fn law_accesses()
     ensures made { AccessesAreMade }
     ensures affine { AffineHaveTheirForms }
-    ensures runnings { RunningsAreTaken }
+    ensures moments { MomentsAreTaken }
     ensures iterations { IterationsAreMade }
 {}

@@ -9,15 +9,15 @@ use Rattle.species_ast.specs.declared.tree.Stmt.{Stmt}
 use Rattle.species_ast.specs.declared.tree.Stmt.TheVariants as stmt
 use Rattle.species_ast.specs.declared.tree.Unit.{Unit}
 use Rattle.species_ast.proofs.Folds.{fold_stmt-Assign, fold_stmt-AddTo, fold_stmt-Declare, fold_stmt-SetLocal, fold_stmt-If, fold_stmt-For, fold_stmt-Block, fold_loop, fold_loop-out}
-use Rattle.species_print.specs.Pieces.{Piece, text_of, line, spaced, name, punctuator}
-use Rattle.species_print.specs.Expressions.{expr_pieces, array_name, local_name, kind_words}
+use Rattle.species_print.specs.Printed.{Printed, text_of, line, spaced, name, punctuator}
+use Rattle.species_print.specs.Expressions.{expr_printed, array_name, local_name, kind_words}
 use Rattle.species_print.specs.Statements.{Layout, all_of, deeper, element, assignment, declaration, initialiser, local_kind, if_head, for_head, else_part, atomic_line, close, species_line, stmt_step, loop_layer, stmt_layout, stmt_text, loop_text, without_line, head_at, head_text}
 use Rattle.species_print.specs.Texts.{expr_text, element_text, assignment_text, declaration_text, if_head_text, for_head_text, stmts_text, else_text, species_text, pragma_text}
 use Rattle.species_print.proofs.ExprTexts.{text_of-append, text-subscripts}
 
 -- ---- lines
 
-pub text-line : (ind : List ℕ) (ps : List Piece) → text_of (line ind ps) ≡ ind ++ (text_of ps ++ codes "\n")
+pub text-line : (ind : List ℕ) (ps : List Printed) → text_of (line ind ps) ≡ ind ++ (text_of ps ++ codes "\n")
 text-line ind ps = ap (λ t. ind ++ t) (text_of-append ps _)
 
 text-element : (u : Unit) (iters : List (List ℕ)) (array : ℕ) (subs : List Expr) →
@@ -28,15 +28,15 @@ text-element u iters array subs = ap (λ t. array_name u array ++ t) (text-subsc
 ending : (a b c : List ℕ) → (a ++ (b ++ (c ++ codes ";"))) ++ codes "\n" ≡ a ++ (b ++ (c ++ codes ";\n"))
 ending a b c = simp append_assoc refl
 
-text-assignment : (u : Unit) (iters : List (List ℕ)) (ind : List ℕ) (target : List Piece) (sign : List ℕ) (value : Expr) →
+text-assignment : (u : Unit) (iters : List (List ℕ)) (ind : List ℕ) (target : List Printed) (sign : List ℕ) (value : Expr) →
     text_of (line ind (assignment u iters target sign value)) ≡ ind ++ (text_of target ++ assignment_text u iters (text_of (spaced sign)) value)
 text-assignment u iters ind target sign value =
-    let semicolon : List Piece = punctuator ";" ∷ [] in
+    let semicolon : List Printed = punctuator ";" ∷ [] in
     text-line ind (assignment u iters target sign value) ∙
     ap (λ t. ind ++ (t ++ codes "\n")) (
-    text_of-append target (spaced sign ++ (expr_pieces u iters value ++ semicolon)) ∙
-    ap (λ t. text_of target ++ t) (text_of-append (spaced sign) (expr_pieces u iters value ++ semicolon) ∙
-    ap (λ t. text_of (spaced sign) ++ t) (text_of-append (expr_pieces u iters value) semicolon))) ∙
+    text_of-append target (spaced sign ++ (expr_printed u iters value ++ semicolon)) ∙
+    ap (λ t. text_of target ++ t) (text_of-append (spaced sign) (expr_printed u iters value ++ semicolon) ∙
+    ap (λ t. text_of (spaced sign) ++ t) (text_of-append (expr_printed u iters value) semicolon))) ∙
     ap (λ t. ind ++ t) (ending (text_of target) (text_of (spaced sign)) (expr_text u iters value))
 
 text-declaration : (u : Unit) (iters : List (List ℕ)) (ind : List ℕ) (n : ℕ) (init : Option Expr) →
@@ -50,13 +50,13 @@ text-declaration u iters ind n init =
 
 pub text-initialiser : (u : Unit) (iters : List (List ℕ)) (e : Expr) →
     text_of (initialiser u iters (Some e)) ≡ codes " = " ++ expr_text u iters e
-text-initialiser u iters e = text_of-append (spaced (codes "=")) (expr_pieces u iters e)
+text-initialiser u iters e = text_of-append (spaced (codes "=")) (expr_printed u iters e)
 
 pub text-if_head : (u : Unit) (iters : List (List ℕ)) (ind : List ℕ) (test : Expr) →
     text_of (line ind (if_head u iters test)) ≡ if_head_text u iters ind test
 text-if_head u iters ind test =
     text-line ind (if_head u iters test) ∙
-    ap (λ t. ind ++ ((codes "if (" ++ t) ++ codes "\n")) (text_of-append (expr_pieces u iters test) _) ∙
+    ap (λ t. ind ++ ((codes "if (" ++ t) ++ codes "\n")) (text_of-append (expr_printed u iters test) _) ∙
     simp append_assoc refl
 
 pub text-for_head : (u : Unit) (iters : List (List ℕ)) (ind : List ℕ) (l : Loop) →

@@ -11,7 +11,7 @@ use Rattle.species_ast.specs.declared.tree.Stmt.TheOpen.{Stmt-F, Loop-F}
 use Rattle.species_ast.specs.declared.tree.Unit.{Unit}
 use Rattle.species_ast.proofs.Folds.{fold_stmt-Assign, fold_stmt-AddTo, fold_stmt-Declare, fold_stmt-SetLocal, fold_stmt-If, fold_stmt-For, fold_stmt-Block, fold_loop}
 use Rattle.species_ast.proofs.Induction.{Each, each_all, StmtCases, stmt_ind}
-use Rattle.species_print.specs.Pieces.{Piece, text_of, line, punctuator, keyword, name, space}
+use Rattle.species_print.specs.Printed.{Printed, text_of, line, punctuator, keyword, name, space}
 use Rattle.species_print.specs.Expressions.{kind_words}
 use Rattle.species_print.specs.Statements.{Layout, all_of, deeper, if_head, for_head, else_part, close, species_line, parallel_line, stmt_step, loop_layer, stmt_layout}
 use Rattle.species_print.specs.Units.{include_line, size, array_line, function_line, front, canonical_text}
@@ -21,14 +21,14 @@ use Rattle.species_print.proofs.StmtTexts.{text-line, text-all}
 
 -- ---- the front
 
--- pieces of each element, as texts
-text-each : {X : Type 0} (pieces : X → List Piece) (text : X → List ℕ) → ((x : X) → text_of (pieces x) ≡ text x) → (xs : List X) →
-    text_of (flat_map pieces xs) ≡ flat_map text xs
-text-each pieces text h [] = refl
-text-each pieces text h (x ∷ xs) =
-    text_of-append (pieces x) (flat_map pieces xs) ∙
-    ap (λ t. t ++ text_of (flat_map pieces xs)) (h x) ∙
-    ap (λ t. text x ++ t) (text-each pieces text h xs)
+-- what is printed of each element, as texts
+text-each : {X : Type 0} (printed : X → List Printed) (text : X → List ℕ) → ((x : X) → text_of (printed x) ≡ text x) → (xs : List X) →
+    text_of (flat_map printed xs) ≡ flat_map text xs
+text-each printed text h [] = refl
+text-each printed text h (x ∷ xs) =
+    text_of-append (printed x) (flat_map printed xs) ∙
+    ap (λ t. t ++ text_of (flat_map printed xs)) (h x) ∙
+    ap (λ t. text x ++ t) (text-each printed text h xs)
 
 text-include : (header : List ℕ) → text_of (include_line header) ≡ include_text header
 text-include header = simp append_assoc refl

@@ -12,7 +12,7 @@ use Rattle.species_ast.specs.declared.tree.Unit.{Unit}
 use Rattle.species_ast.specs.declared.tree.Value.{Value}
 use Rattle.species_ast.specs.declared.tree.Value.TheVariants as value
 use Rattle.species_ast.specs.declared.token.TokenKind.TheVariants as kind
-use Rattle.species_print.specs.Pieces.{Piece, Lexeme, punctuator, keyword, name, number, space, spaced}
+use Rattle.species_print.specs.Printed.{Printed, Lexeme, punctuator, keyword, name, number, space, spaced}
 
 -- ---- names: what has no name is written as nothing
 
@@ -26,7 +26,7 @@ local_name u n = unwrap_or (option_map (λ l. l.name) (slice_get u.locals n)) []
 abbrev pub iter_name : List (List ℕ) → ℕ → List ℕ
 iter_name iters level = unwrap_or (slice_get iters level) []
 
-abbrev pub kind_words : Kind → List Piece
+abbrev pub kind_words : Kind → List Printed
 kind_words of_kind.Int = keyword "int" ∷ []
 kind_words of_kind.Unsigned = keyword "unsigned" ∷ []
 kind_words of_kind.Long = keyword "long" ∷ space ∷ keyword "long" ∷ []
@@ -70,40 +70,40 @@ negation_at _ = false
 abbrev pub is_negation : Expr → Bool
 is_negation e = negation_at (out-Expr e)
 
--- ---- the pieces of an expression
+-- ---- what is printed of an expression
 
--- an operand, with its pieces
+-- an operand, with what is printed of it
 abbrev pub Operand : Type 0
-Operand = Expr × List Piece
+Operand = Expr × List Printed
 
-abbrev pub bracketed : Bool → List Piece → List Piece
+abbrev pub bracketed : Bool → List Printed → List Printed
 bracketed true ps = punctuator "(" ∷ (ps ++ punctuator ")" ∷ [])
 bracketed false ps = ps
 
 -- in brackets where its level is below this one
-abbrev pub at_least : ℕ → Operand → List Piece
+abbrev pub at_least : ℕ → Operand → List Printed
 at_least level a = bracketed (nat_lt (level_of a.0) level) a.1
 
 -- behind a unary operator: `--` would be another operator, so a minus behind a minus stands in brackets too
-abbrev pub behind_unary : Unary → Operand → List Piece
+abbrev pub behind_unary : Unary → Operand → List Printed
 behind_unary op a = bracketed (nat_lt (level_of a.0) cast_level || (is_minus op && is_negation a.0)) a.1
 
-abbrev pub subscript : List Piece → List Piece
+abbrev pub subscript : List Printed → List Printed
 subscript ps = punctuator "[" ∷ (ps ++ punctuator "]" ∷ [])
 
 -- a number of a signed kind, from the token of its size
-abbrev pub signed_pieces : (ℕ → Piece) → ℤ → List Piece
-signed_pieces token (pos n) = token n ∷ []
-signed_pieces token (negsuc n) = punctuator "-" ∷ token (suc n) ∷ []
+abbrev pub signed_printed : (ℕ → Printed) → ℤ → List Printed
+signed_printed token (pos n) = token n ∷ []
+signed_printed token (negsuc n) = punctuator "-" ∷ token (suc n) ∷ []
 
-abbrev pub literal_pieces : Value → List Piece
-literal_pieces (value.Int z) = signed_pieces number z
-literal_pieces (value.Unsigned n) = Lexeme (decimal n ++ codes "u") (kind.Number (value.Unsigned n)) ∷ []
-literal_pieces (value.Long z) = signed_pieces (λ n. Lexeme (decimal n ++ codes "ll") (kind.Number (value.Long (pos n)))) z
-literal_pieces (value.UnsignedLong n) = Lexeme (decimal n ++ codes "ull") (kind.Number (value.UnsignedLong n)) ∷ []
+abbrev pub literal_printed : Value → List Printed
+literal_printed (value.Int z) = signed_printed number z
+literal_printed (value.Unsigned n) = Lexeme (decimal n ++ codes "u") (kind.Number (value.Unsigned n)) ∷ []
+literal_printed (value.Long z) = signed_printed (λ n. Lexeme (decimal n ++ codes "ll") (kind.Number (value.Long (pos n)))) z
+literal_printed (value.UnsignedLong n) = Lexeme (decimal n ++ codes "ull") (kind.Number (value.UnsignedLong n)) ∷ []
 
-abbrev pub expr_step : Unit → List (List ℕ) → Expr-F Operand → List Piece
-expr_step u iters (Expr-F.Literal v) = literal_pieces v
+abbrev pub expr_step : Unit → List (List ℕ) → Expr-F Operand → List Printed
+expr_step u iters (Expr-F.Literal v) = literal_printed v
 expr_step u iters (Expr-F.Iter level) = name (iter_name iters level) ∷ []
 expr_step u iters (Expr-F.Local n) = name (local_name u n) ∷ []
 expr_step u iters (Expr-F.Elem array subs) = name (array_name u array) ∷ flat_map subscript (map (λ a. a.1) subs)
@@ -116,5 +116,5 @@ expr_step u iters (Expr-F.Cond c a b) = at_least (conditional_level + 1) c ++ (s
 expr_step u iters (Expr-F.Cast k a) = punctuator "(" ∷ (kind_words k ++ punctuator ")" ∷ at_least cast_level a)
 
 -- `iters` has the names of the loops around the expression, by level
-abbrev pub expr_pieces : Unit → List (List ℕ) → Expr → List Piece
-expr_pieces u iters = para-Expr (List Piece) (expr_step u iters)
+abbrev pub expr_printed : Unit → List (List ℕ) → Expr → List Printed
+expr_printed u iters = para-Expr (List Printed) (expr_step u iters)

@@ -1,4 +1,4 @@
-pub mod Pieces
+pub mod Printed
 pub mod Expressions
 pub mod Statements
 pub mod Units

@@ -15,8 +15,8 @@ use Rattle.species_ast.specs.declared.tree.Stmt.{Stmt, out-Stmt, fold-Stmt}
 use Rattle.species_ast.specs.declared.tree.Stmt.TheOpen.{Stmt-F, Loop-F}
 use Rattle.species_ast.specs.declared.tree.Unit.{Unit}
 use Rattle.species_ast.specs.declared.token.TokenKind.TheVariants as kind
-use Rattle.species_print.specs.Pieces.{Piece, Lexeme, punctuator, keyword, name, number, space, spaced, line, text_of}
-use Rattle.species_print.specs.Expressions.{array_name, local_name, kind_words, subscript, expr_pieces}
+use Rattle.species_print.specs.Printed.{Printed, Lexeme, punctuator, keyword, name, number, space, spaced, line, text_of}
+use Rattle.species_print.specs.Expressions.{array_name, local_name, kind_words, subscript, expr_printed}
 
 -- ---- indentation
 
@@ -31,38 +31,38 @@ indentation (suc depth) = deeper (indentation depth)
 
 -- What a statement becomes, by the names of the loops around it and by its indentation.
 abbrev pub Layout : Type 0
-Layout = List (List ℕ) → List ℕ → List Piece
+Layout = List (List ℕ) → List ℕ → List Printed
 
 abbrev pub all_of : List Layout → Layout
 all_of list iters ind = flat_map (λ layout. layout iters ind) list
 
 -- ---- assignments and declarations
 
-abbrev pub element : Unit → List (List ℕ) → ℕ → List Expr → List Piece
-element u iters array subs = name (array_name u array) ∷ flat_map subscript (map (expr_pieces u iters) subs)
+abbrev pub element : Unit → List (List ℕ) → ℕ → List Expr → List Printed
+element u iters array subs = name (array_name u array) ∷ flat_map subscript (map (expr_printed u iters) subs)
 
 -- a target, an assignment's sign and a value
-abbrev pub assignment : Unit → List (List ℕ) → List Piece → List ℕ → Expr → List Piece
-assignment u iters target sign value = target ++ (spaced sign ++ (expr_pieces u iters value ++ punctuator ";" ∷ []))
+abbrev pub assignment : Unit → List (List ℕ) → List Printed → List ℕ → Expr → List Printed
+assignment u iters target sign value = target ++ (spaced sign ++ (expr_printed u iters value ++ punctuator ";" ∷ []))
 
 abbrev pub local_kind : Unit → ℕ → Kind
 local_kind u n = unwrap_or (option_map (λ l. l.kind) (slice_get u.locals n)) of_kind.Int
 
-abbrev pub initialiser : Unit → List (List ℕ) → Option Expr → List Piece
+abbrev pub initialiser : Unit → List (List ℕ) → Option Expr → List Printed
 initialiser u iters None = []
-initialiser u iters (Some e) = spaced (codes "=") ++ expr_pieces u iters e
+initialiser u iters (Some e) = spaced (codes "=") ++ expr_printed u iters e
 
-abbrev pub declaration : Unit → List (List ℕ) → ℕ → Option Expr → List Piece
+abbrev pub declaration : Unit → List (List ℕ) → ℕ → Option Expr → List Printed
 declaration u iters n init =
     kind_words (local_kind u n) ++ (space ∷ name (local_name u n) ∷ (initialiser u iters init ++ punctuator ";" ∷ []))
 
 -- ---- pragmas (OpenMP 4.5, 2.13.6 and 2.7.1)
 
-abbrev pub atomic_line : Bool → List ℕ → List Piece
+abbrev pub atomic_line : Bool → List ℕ → List Printed
 atomic_line false ind = []
 atomic_line true ind = line ind (Lexeme (codes "#pragma omp atomic update") kind.Atomic ∷ [])
 
-abbrev pub species_line : Option Line → List ℕ → List Piece
+abbrev pub species_line : Option Line → List ℕ → List Printed
 species_line None ind = []
 species_line (Some l) ind = line ind (Lexeme l.text kind.Species ∷ [])
 
@@ -78,29 +78,29 @@ schedule_text schedule.Guided = codes " schedule(guided)"
 abbrev pub parallel_text : ℕ → Schedule → List ℕ
 parallel_text depth s = codes "#pragma omp parallel for" ++ (collapse_text depth ++ schedule_text s)
 
-abbrev pub parallel_line : Mark → List ℕ → List Piece
+abbrev pub parallel_line : Mark → List ℕ → List Printed
 parallel_line mark.Plain ind = []
 parallel_line (mark.Parallel depth s) ind = line ind (Lexeme (parallel_text depth s) (kind.Parallel depth s) ∷ [])
 
 -- ---- heads
 
-abbrev pub if_head : Unit → List (List ℕ) → Expr → List Piece
-if_head u iters test = keyword "if" ∷ space ∷ punctuator "(" ∷ (expr_pieces u iters test ++ (punctuator ")" ∷ space ∷ punctuator "{" ∷ []))
+abbrev pub if_head : Unit → List (List ℕ) → Expr → List Printed
+if_head u iters test = keyword "if" ∷ space ∷ punctuator "(" ∷ (expr_printed u iters test ++ (punctuator ")" ∷ space ∷ punctuator "{" ∷ []))
 
 -- `i++`, `i--`, `i += n` or `i -= n`
-abbrev pub step_pieces : List ℕ → ℤ → List Piece
-step_pieces i (pos (suc zero)) = name i ∷ punctuator "++" ∷ []
-step_pieces i (pos n) = name i ∷ (spaced (codes "+=") ++ number n ∷ [])
-step_pieces i (negsuc zero) = name i ∷ punctuator "--" ∷ []
-step_pieces i (negsuc n) = name i ∷ (spaced (codes "-=") ++ number (suc n) ∷ [])
+abbrev pub step_printed : List ℕ → ℤ → List Printed
+step_printed i (pos (suc zero)) = name i ∷ punctuator "++" ∷ []
+step_printed i (pos n) = name i ∷ (spaced (codes "+=") ++ number n ∷ [])
+step_printed i (negsuc zero) = name i ∷ punctuator "--" ∷ []
+step_printed i (negsuc n) = name i ∷ (spaced (codes "-=") ++ number (suc n) ∷ [])
 
 -- the iterator has its name from the limit on
-abbrev pub for_head : {X Y : Type 0} → Unit → List (List ℕ) → Loop-F X Y → List Piece
+abbrev pub for_head : {X Y : Type 0} → Unit → List (List ℕ) → Loop-F X Y → List Printed
 for_head u iters l =
     keyword "for" ∷ space ∷ punctuator "(" ∷ keyword "int" ∷ space ∷ name l.iter ∷
-    (spaced (codes "=") ++ (expr_pieces u iters l.start ++ (punctuator ";" ∷ space ∷ name l.iter ∷
-    (spaced (test_sign l.test) ++ (expr_pieces u (iters ++ l.iter ∷ []) l.limit ++ (punctuator ";" ∷ space ∷
-    (step_pieces l.iter l.step ++ (punctuator ")" ∷ space ∷ punctuator "{" ∷ []))))))))
+    (spaced (codes "=") ++ (expr_printed u iters l.start ++ (punctuator ";" ∷ space ∷ name l.iter ∷
+    (spaced (test_sign l.test) ++ (expr_printed u (iters ++ l.iter ∷ []) l.limit ++ (punctuator ";" ∷ space ∷
+    (step_printed l.iter l.step ++ (punctuator ")" ∷ space ∷ punctuator "{" ∷ []))))))))
 
 -- ---- statements
 
@@ -109,7 +109,7 @@ else_part [] iters ind = []
 else_part (s ∷ ss) iters ind =
     line ind (punctuator "}" ∷ space ∷ keyword "else" ∷ space ∷ punctuator "{" ∷ []) ++ all_of (s ∷ ss) iters (deeper ind)
 
-abbrev pub close : List ℕ → List Piece
+abbrev pub close : List ℕ → List Printed
 close ind = line ind (punctuator "}" ∷ [])
 
 abbrev pub stmt_step : Unit → Stmt-F Layout Layout → Layout
@@ -149,7 +149,7 @@ abbrev pub loop_text : Unit → List (List ℕ) → List ℕ → Loop → List �
 loop_text u iters ind l = text_of (loop_layout false u l iters ind)
 
 -- the first line of an `if` or a loop, which is no pragma
-abbrev pub head_at : Unit → List (List ℕ) → List ℕ → Stmt-F Stmt Loop → List Piece
+abbrev pub head_at : Unit → List (List ℕ) → List ℕ → Stmt-F Stmt Loop → List Printed
 head_at u iters ind (Stmt-F.If place test body otherwise) = line ind (if_head u iters test)
 head_at u iters ind (Stmt-F.For l) = line ind (for_head u iters (out-Loop l))
 head_at u iters ind _ = []

@@ -9,12 +9,12 @@ use Rattle.species_ast.specs.declared.tree.Stmt.{Stmt}
 use Rattle.species_ast.specs.declared.tree.Array.{Array}
 use Rattle.species_ast.specs.declared.tree.Test.{Test}
 use Rattle.species_ast.specs.declared.tree.Unit.{Unit}
-use Rattle.species_print.specs.Pieces.{text_of, spaced}
-use Rattle.species_print.specs.Expressions.{array_name, local_name, kind_words, expr_pieces}
-use Rattle.species_print.specs.Statements.{deeper, local_kind, initialiser, species_line, step_pieces, stmt_text}
+use Rattle.species_print.specs.Printed.{text_of, spaced}
+use Rattle.species_print.specs.Expressions.{array_name, local_name, kind_words, expr_printed}
+use Rattle.species_print.specs.Statements.{deeper, local_kind, initialiser, species_line, step_printed, stmt_text}
 
 abbrev pub expr_text : Unit → List (List ℕ) → Expr → List ℕ
-expr_text u iters e = text_of (expr_pieces u iters e)
+expr_text u iters e = text_of (expr_printed u iters e)
 
 abbrev pub subscript_text : Unit → List (List ℕ) → Expr → List ℕ
 subscript_text u iters e = codes "[" ++ (expr_text u iters e ++ codes "]")
@@ -43,7 +43,7 @@ for_test_text u iters iter test limit =
     iter ++ (text_of (spaced (test_sign test)) ++ (expr_text u iters limit ++ codes "; "))
 
 abbrev pub for_end_text : List ℕ → Loop → List ℕ
-for_end_text iter l = text_of (step_pieces iter (out-Loop l).step) ++ codes ") {\n"
+for_end_text iter l = text_of (step_printed iter (out-Loop l).step) ++ codes ") {\n"
 
 abbrev pub for_head_text : Unit → List (List ℕ) → List ℕ → Loop → List ℕ
 for_head_text u iters ind l =

@@ -1,8 +1,8 @@
 //! Expressions, with brackets where their levels need them.
 ghost use Rattle.std.specs.Prelude.{◌≡◌, ◌++◌, ◌<◌, pos, OnOk, nat_lt, int_lt};
 ghost use Rattle.std.specs.List.{flat_map};
-ghost use Rattle.species_print.specs.Pieces.{text_of};
-ghost use Rattle.species_print.specs.Expressions.{is_minus, is_negative, level_of, is_negation, bracketed, at_least, behind_unary, expr_pieces};
+ghost use Rattle.species_print.specs.Printed.{text_of};
+ghost use Rattle.species_print.specs.Expressions.{is_minus, is_negative, level_of, is_negation, bracketed, at_least, behind_unary, expr_printed};
 ghost use Rattle.species_print.specs.Texts.{subscript_text};
 
 use crate::words::{array_name, iter_name, kind_words, local_name, put, put_literal, put_spaced};
@@ -65,7 +65,7 @@ pub(crate) fn print_expr(
     expr: &Expr,
     out: &mut Vec<u8>,
 ) -> Result<(), OutOfMemory>
-    ensures { OnOk result (out.new.items ≡ out.old.items ++ text_of (expr_pieces unit.now iters.now expr.now)) }
+    ensures { OnOk result (out.new.items ≡ out.old.items ++ text_of (expr_printed unit.now iters.now expr.now)) }
 {
     match expr {
         Expr::Literal(value) => {
@@ -136,7 +136,7 @@ fn print_operand(
     expr: &Expr,
     out: &mut Vec<u8>,
 ) -> Result<(), OutOfMemory>
-    ensures { OnOk result (out.new.items ≡ out.old.items ++ text_of (at_least least (expr.now, expr_pieces unit.now iters.now expr.now))) }
+    ensures { OnOk result (out.new.items ≡ out.old.items ++ text_of (at_least least (expr.now, expr_printed unit.now iters.now expr.now))) }
 {
     let brackets = level_of(expr) < least;
     print_bracketed(unit, iters, brackets, expr, out)?;
@@ -152,7 +152,7 @@ fn print_behind_unary(
     expr: &Expr,
     out: &mut Vec<u8>,
 ) -> Result<(), OutOfMemory>
-    ensures { OnOk result (out.new.items ≡ out.old.items ++ text_of (behind_unary op (expr.now, expr_pieces unit.now iters.now expr.now))) }
+    ensures { OnOk result (out.new.items ≡ out.old.items ++ text_of (behind_unary op (expr.now, expr_printed unit.now iters.now expr.now))) }
 {
     let brackets = level_of(expr) < 11 || (is_minus(op) && is_negation(expr));
     print_bracketed(unit, iters, brackets, expr, out)?;
@@ -167,7 +167,7 @@ fn print_bracketed(
     expr: &Expr,
     out: &mut Vec<u8>,
 ) -> Result<(), OutOfMemory>
-    ensures { OnOk result (out.new.items ≡ out.old.items ++ text_of (bracketed brackets (expr_pieces unit.now iters.now expr.now))) }
+    ensures { OnOk result (out.new.items ≡ out.old.items ++ text_of (bracketed brackets (expr_printed unit.now iters.now expr.now))) }
 {
     if brackets {
         put(b"(", out)?;

@@ -1,9 +1,9 @@
 //! Statements and loops, a line each.
 ghost use Rattle.std.specs.Prelude.{◌≡◌, ◌++◌, [], ◌∷◌, OnOk, OnErr, IfOk, List, length, codes};
 ghost use Rattle.std.specs.List.{flat_map};
-ghost use Rattle.species_print.specs.Pieces.{text_of};
+ghost use Rattle.species_print.specs.Printed.{text_of};
 ghost use Rattle.species_print.specs.Named.{IsNamed, IsNamedLoop, HasHead};
-ghost use Rattle.species_print.specs.Statements.{indentation, deeper, stmt_text, loop_text, head_text, without_line, initialiser, atomic_line, step_pieces};
+ghost use Rattle.species_print.specs.Statements.{indentation, deeper, stmt_text, loop_text, head_text, without_line, initialiser, atomic_line, step_printed};
 ghost use Rattle.species_print.specs.Texts.{element_text, assignment_text, declaration_text, for_start_text, for_test_text, for_end_text, for_head_text, if_head_text, stmts_text, else_text, pragma_text, species_text};
 
 use crate::expressions::{print_expr, print_subs};
@@ -209,7 +209,7 @@ fn print_for_end(iter: &[u8], head: &Loop, out: &mut Vec<u8>) -> Result<(), OutO
 }
 
 fn print_step(iter: &[u8], step: i32, out: &mut Vec<u8>) -> Result<(), OutOfMemory>
-    ensures { OnOk result (out.new.items ≡ out.old.items ++ text_of (step_pieces iter.now step)) }
+    ensures { OnOk result (out.new.items ≡ out.old.items ++ text_of (step_printed iter.now step)) }
 {
     put(iter, out)?;
     match step {

@@ -2,7 +2,7 @@
 ghost use Rattle.std.specs.Prelude.{◌≡◌, ◌++◌, OnOk, OnErr, IfOk};
 ghost use Rattle.std.specs.List.{flat_map};
 ghost use Rattle.species_ast.specs.Marks.{IsUnmarked};
-ghost use Rattle.species_print.specs.Pieces.{text_of};
+ghost use Rattle.species_print.specs.Printed.{text_of};
 ghost use Rattle.species_print.specs.Units.{front, canonical_text};
 ghost use Rattle.species_print.specs.Texts.{include_text, size_text, array_text, front_text};
 

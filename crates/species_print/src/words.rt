@@ -1,8 +1,8 @@
 //! Names, numbers and signs.
 ghost use Rattle.std.specs.Prelude.{◌≡◌, ◌++◌, [], OnOk, OnErr, decimal, codes, slice_get, unwrap_or, option_map};
 ghost use Rattle.std.specs.Fmt.{signed_decimal};
-ghost use Rattle.species_print.specs.Pieces.{text_of, spaced};
-ghost use Rattle.species_print.specs.Expressions.{array_name, local_name, iter_name, kind_words, literal_pieces};
+ghost use Rattle.species_print.specs.Printed.{text_of, spaced};
+ghost use Rattle.species_print.specs.Expressions.{array_name, local_name, iter_name, kind_words, literal_printed};
 ghost use Rattle.species_print.specs.Statements.{local_kind};
 
 use itoa::{Buffer, Integer};
@@ -33,7 +33,7 @@ fn put_signed(n: i64, out: &mut Vec<u8>) -> Result<(), OutOfMemory>
 }
 
 pub(crate) fn put_literal(value: Value, out: &mut Vec<u8>) -> Result<(), OutOfMemory>
-    ensures { OnOk result (out.new.items ≡ out.old.items ++ text_of (literal_pieces value)) }
+    ensures { OnOk result (out.new.items ≡ out.old.items ++ text_of (literal_printed value)) }
 {
     match value {
         Value::Int(n) => {

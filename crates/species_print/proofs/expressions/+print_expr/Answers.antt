@@ -2,8 +2,8 @@ use Rattle.std.proofs.Common.{rules, ◌∙◌, ◌+◌, ap, append_assoc, codes
 use Rattle.std.specs.List.{flat_map}
 use Rattle.species_ast.specs.Signs.{binary_level, binary_sign}
 use Rattle.species_ast.specs.declared.tree.Expr.{Expr}
-use Rattle.species_print.specs.Pieces.{text_of, spaced}
-use Rattle.species_print.specs.Expressions.{at_least, expr_pieces}
+use Rattle.species_print.specs.Printed.{text_of, spaced}
+use Rattle.species_print.specs.Expressions.{at_least, expr_printed}
 use Rattle.species_print.specs.Texts.{expr_text, subscript_text}
 use Rattle.species_print.proofs.ExprTexts.{flat_map-next, regroup3, regroup5, text-Literal, text-Iter, text-Local, text-Elem, text-Unary, text-Binary, text-And, text-Or, text-Cond, text-Cast}
 use Rattle.species_print.proofs.expressions.+print_expr.Goals as goal
@@ -41,9 +41,9 @@ print_expr-returns-in_ok-print_operand-in-Binary-2 t c =
       ap (expr_text c.args.unit.now c.args.iters.now) c.in-Binary.is ∙ text-Binary c.args.unit.now c.args.iters.now c.in-Binary.op c.in-Binary.a c.in-Binary.b,
     )
     (regroup3 c.args.out.now.items
-    (text_of (at_least (binary_level c.in-Binary.op) (c.in-Binary.a, expr_pieces c.args.unit.now c.args.iters.now c.in-Binary.a)))
+    (text_of (at_least (binary_level c.in-Binary.op) (c.in-Binary.a, expr_printed c.args.unit.now c.args.iters.now c.in-Binary.a)))
     (text_of (spaced (binary_sign c.in-Binary.op)))
-    (text_of (at_least (binary_level c.in-Binary.op + 1) (c.in-Binary.b, expr_pieces c.args.unit.now c.args.iters.now c.in-Binary.b))))
+    (text_of (at_least (binary_level c.in-Binary.op + 1) (c.in-Binary.b, expr_printed c.args.unit.now c.args.iters.now c.in-Binary.b))))
 
 pub print_expr-returns-in_ok-print_operand-in-And-2 : goal.print_expr-returns-in_ok-print_operand-in-And-2
 print_expr-returns-in_ok-print_operand-in-And-2 t c =
@@ -56,9 +56,9 @@ print_expr-returns-in_ok-print_operand-in-And-2 t c =
       ap (expr_text c.args.unit.now c.args.iters.now) c.in-And.is ∙ text-And c.args.unit.now c.args.iters.now c.in-And.a c.in-And.b,
     )
     (regroup3 c.args.out.now.items
-    (text_of (at_least 2 (c.in-And.a, expr_pieces c.args.unit.now c.args.iters.now c.in-And.a)))
+    (text_of (at_least 2 (c.in-And.a, expr_printed c.args.unit.now c.args.iters.now c.in-And.a)))
     (codes " && ")
-    (text_of (at_least 3 (c.in-And.b, expr_pieces c.args.unit.now c.args.iters.now c.in-And.b))))
+    (text_of (at_least 3 (c.in-And.b, expr_printed c.args.unit.now c.args.iters.now c.in-And.b))))
 
 pub print_expr-returns-in_ok-print_operand-in-Or-2 : goal.print_expr-returns-in_ok-print_operand-in-Or-2
 print_expr-returns-in_ok-print_operand-in-Or-2 t c =
@@ -71,9 +71,9 @@ print_expr-returns-in_ok-print_operand-in-Or-2 t c =
       ap (expr_text c.args.unit.now c.args.iters.now) c.in-Or.is ∙ text-Or c.args.unit.now c.args.iters.now c.in-Or.a c.in-Or.b,
     )
     (regroup3 c.args.out.now.items
-    (text_of (at_least 1 (c.in-Or.a, expr_pieces c.args.unit.now c.args.iters.now c.in-Or.a)))
+    (text_of (at_least 1 (c.in-Or.a, expr_printed c.args.unit.now c.args.iters.now c.in-Or.a)))
     (codes " || ")
-    (text_of (at_least 2 (c.in-Or.b, expr_pieces c.args.unit.now c.args.iters.now c.in-Or.b))))
+    (text_of (at_least 2 (c.in-Or.b, expr_printed c.args.unit.now c.args.iters.now c.in-Or.b))))
 
 pub print_expr-returns-in_ok-print_expr-in-Cond-2 : goal.print_expr-returns-in_ok-print_expr-in-Cond-2
 print_expr-returns-in_ok-print_expr-in-Cond-2 t c =
@@ -89,7 +89,7 @@ print_expr-returns-in_ok-print_expr-in-Cond-2 t c =
       ap (expr_text c.args.unit.now c.args.iters.now) c.in-Cond.is ∙ text-Cond c.args.unit.now c.args.iters.now c.in-Cond.test c.in-Cond.a c.in-Cond.b,
     )
     (regroup5 c.args.out.now.items
-    (text_of (at_least 1 (c.in-Cond.test, expr_pieces c.args.unit.now c.args.iters.now c.in-Cond.test)))
+    (text_of (at_least 1 (c.in-Cond.test, expr_printed c.args.unit.now c.args.iters.now c.in-Cond.test)))
     (codes " ? ")
     (expr_text c.args.unit.now c.args.iters.now c.in-Cond.a)
     (codes " : ")
