@@ -26,7 +26,7 @@ if [ ! -x "$program" ]; then
     grep -E '^species_(ast|io|grammar|lexer|parser):' "$top/crates.txt" > "$copy/crates.txt"
     (cd "$copy" && rt new crates/reading start_io > /dev/null)
     echo 'reading: species_ast species_io species_lexer species_parser' >> "$copy/crates.txt"
-    rm -f "$copy/crates/reading/stdin" "$copy/crates/reading/stdout"
+    rm -f "$copy/crates/reading/stdin" "$copy/crates/reading/stdout" "$copy/crates/reading/src/clock.rt"
     cat > "$copy/crates/reading/src/main.rt" <<'RT'
 //! Reads a program in pieces, and tells what became of it by its status.
 #![tactic(auto)]
@@ -110,11 +110,15 @@ PY
 
 measure() { # FILE COMMAND..: status, seconds and KiB
     python3 - "$@" <<'PY'
-import resource, subprocess, sys, time
+import os, resource, signal, subprocess, sys, time
 begin = time.time()
+run = subprocess.Popen(sys.argv[2:], stdin=open(sys.argv[1]), stdout=subprocess.DEVNULL, stderr=subprocess.DEVNULL, start_new_session=True)
 try:
-    status = subprocess.run(sys.argv[2:], stdin=open(sys.argv[1]), stdout=subprocess.DEVNULL, stderr=subprocess.DEVNULL, timeout=120).returncode
+    status = run.wait(timeout=120)
 except subprocess.TimeoutExpired:
+    # a driver's own compiler goes on when the driver alone is stopped
+    os.killpg(run.pid, signal.SIGKILL)
+    run.wait()
     status = "late"
 print(status, "%.3f %d" % (time.time() - begin, resource.getrusage(resource.RUSAGE_CHILDREN).ru_maxrss))
 PY
