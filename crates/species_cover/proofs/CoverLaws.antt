@@ -57,6 +57,7 @@ place_of : (iters : Point) (place : List ℤ) (d : Arc) (g : GivenArc) → Cover
 place_of iters place d g c is = record {
   array = c.array;
   direction = c.direction;
+  known = c.known;
   indices = arc_place g.exact iters g.dims d.dims place c.dims is;
 }
 

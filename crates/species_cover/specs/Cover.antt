@@ -42,6 +42,6 @@ pub record IsFirstUncovered (given : List GivenArc) (derived : List Arc) (n : �
   pub uncovered : (d : Arc) → IsCovered given (slice_index_or derived n d) → ⊥
   pub before : (k : ℕ) (d : Arc) → k < n → IsCovered given (slice_index_or derived k d)
 
--- The number of an arc in 32 bits.
+-- The number of an arc in 32 bits; those that do not fit have the greatest.
 abbrev pub numbered : ℕ → ℕ
 numbered n = min n 4294967295

@@ -1,5 +1,5 @@
 -- The places of a given arc in an iteration.
-use Rattle.std.specs.Prelude.{◌≡◌, ◌-ℤ◌, ℤ, List, Some}
+use Rattle.std.specs.Prelude.{◌≡◌, ◌-ℤ◌, ℤ, List, Some, IsTrue}
 use Rattle.std.specs.List.{Any}
 use Rattle.species_linear.specs.Point.{Point}
 use Rattle.species_linear.specs.Value.{form_at}
@@ -18,10 +18,11 @@ offsets_of g = record { low = g.a; high = g.b; stride = g.stride }
 abbrev pub IsInGivenDim : Point → GivenDim → ℤ → Type 0
 IsInGivenDim iters g index = IsInSpan (offsets_of g) (index -ℤ form_at g.at iters)
 
--- A given arc of the array and direction of a derived one has this place.
+-- A given arc of the array and direction of a derived one, all of whose names are known, has this place.
 pub record HasPlace (d : Arc) (iters : Point) (place : List ℤ) (g : GivenArc) : Type 0 where
   pub array : g.array ≡ Some d.array
   pub direction : g.dir ≡ d.dir
+  pub known : IsTrue g.known
   pub indices : Pairwise (IsInGivenDim iters) g.dims place
 
 -- Some given arc does.

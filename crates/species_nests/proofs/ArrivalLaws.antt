@@ -14,7 +14,7 @@ use Rattle.species_ast.specs.Evaluation.{Frame, Context, Spot, Sense, sense}
 use Rattle.species_ast.specs.Run.{inside, outside, turns, iterator_values, looping, does_list, does_scope, cleared, declared_in, spot, step, loop_of}
 use Rattle.species_ast.proofs.AccessLaws.{then_do-assoc}
 use Rattle.species_ast.proofs.RunLaws.{step-For, step-If, step-Block, loop_is, turns-append}
-use Rattle.species_nests.specs.Arrivals.{heading, header, turn_of, Moment, Reaches, here, in_turn, in_body, in_otherwise, in_block, ReachesIn, first, later, Running, moment, ComesIn}
+use Rattle.species_nests.specs.Arrivals.{heading, header, turn_of, Moment, Reaches, here, in_turn, in_body, in_otherwise, in_block, ReachesIn, first, later, begun_at, Running, moment, ComesIn}
 use Rattle.species_runs.proofs.EveryLaws.{IsPart, part_itself, part_first, part_later}
 
 -- a loop is its header, and then its turns
@@ -46,10 +46,6 @@ pub does_If : (w : Context) (place : ℕ) (test : Expr) (body otherwise : List S
 does_If w place test body otherwise at f =
     ap (λ s. s.does at f) (step-If w place test body otherwise)
     ∙ ap (λ k. then_do ((sense w test).does (spot place at) 0 f) (λ v. if is_true v then does_scope w body at 0 f else does_scope w otherwise at k f)) (length-map body (step w))
-
--- what is done at a moment, as a tree
-abbrev pub begun_at : Context → Moment → Tree Frame
-begun_at w q = (step w q.statement).does q.at q.frame
 
 -- the running of a loop, as a tree
 abbrev pub running : Context → Running → Tree Frame

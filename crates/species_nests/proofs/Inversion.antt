@@ -10,7 +10,7 @@ use Rattle.species_ast.specs.Operators.{is_true}
 use Rattle.species_ast.specs.Accesses.{Joins, Cells, Ended, run}
 use Rattle.species_ast.specs.Evaluation.{Frame, Context, sense}
 use Rattle.species_ast.specs.Run.{inside, turns, spot, step}
-use Rattle.species_nests.specs.Arrivals.{header, turn_of, Moment, Reaches, here, in_turn, in_body, in_otherwise, in_block, ReachesIn, first, later, Running, moment, Comes, ComesIn}
+use Rattle.species_nests.specs.Arrivals.{header, turn_of, Moment, Reaches, here, in_turn, in_body, in_otherwise, in_block, ReachesIn, first, later, Running, moment, Comes}
 
 -- it is in a turn of the loop
 pub record InTurn (join : Joins) (w : Context) (q : Moment) (l : Loop) (around : List Loop) (at : List ℕ) (f : Frame) (m : Cells) : Type 0 where

@@ -64,6 +64,10 @@ mutual
         → run join ((step w x).does (at ++ k ∷ []) f) m ≡ Ended g n
         → ReachesIn join w q xs around at (suc k) g n → ReachesIn join w q (x ∷ xs) around at k f m
 
+-- what is done at a moment, as a tree
+abbrev pub begun_at : Context → Moment → Tree Frame
+begun_at w q = (step w q.statement).does q.at q.frame
+
 -- In the run of a unit's body from these arrays a statement begins at this moment.
 abbrev pub Begins : Joins → Program → Cells → Moment → Type 0
 Begins join u m q = ReachesIn join (source_context u) q u.body [] [] 0 (first_frame u) m

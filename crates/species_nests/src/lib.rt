@@ -1,5 +1,14 @@
-//! Where a run comes to a loop, and the iterations of a nest: definitions and laws.
+//! When a statement begins in a run, and the iterations of a nest: definitions and laws.
 //!
-//! A running of a loop is a moment of a run: the frame and the arrays from which the loop is run.
-//! It is there also where the loop accesses nothing. Nothing here runs.
+//! A moment of a run is a statement with the frame and the arrays from which it is run. It is there
+//! also where the statement accesses nothing. Nothing here runs.
 #![tactic(auto)]
+
+ghost use Rattle.species_nests.specs.Law.{MomentsAreDistinct, MomentsArePartsOfTheRun};
+
+/// A statement that begins in a run that ends does end, with accesses that are a part of the whole's,
+/// and its position and iterators tell the moment.
+pub fn law_moments()
+    ensures parts { MomentsArePartsOfTheRun }
+    ensures distinct { MomentsAreDistinct }
+{}
