@@ -2,3 +2,9 @@ mod ScanLemmas
 mod CutLemmas
 mod LineLemmas
 mod SpeciesLemmas
+mod TokenLemmas
+mod WordLemmas
+mod NumberLemmas
+mod ApartLemmas
+mod ExpressionLemmas
+mod GivesLemmas

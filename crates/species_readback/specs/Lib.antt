@@ -1,1 +1,5 @@
 pub mod Law
+pub mod Spelt
+pub mod Meant
+pub mod Unplaced
+pub mod ReadBack
