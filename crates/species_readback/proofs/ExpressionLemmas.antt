@@ -308,7 +308,7 @@ name_reads s text e h =
     (λ n subs t b. ap (λ x. value_by s (meaning_in s.names x) (exprs_of (readings subs s))) t ∙ ap (value_by s (meaning_in s.names text)) b ∙ h)
     (λ place. record { raws = []; derives = Subscripts.none; becomes = refl; quiet = refl })
 
-number_reads : (s : Scope) (text : List ℕ) (v : Value) → Reads s 12 (expr.Literal v) (Lexeme text (kind.Number v) ∷ [])
+pub number_reads : (s : Scope) (text : List ℕ) (v : Value) → Reads s 12 (expr.Literal v) (Lexeme text (kind.Number v) ∷ [])
 number_reads s text v place = record {
   raw = expression place (term.Number v);
   derives = Expression.constant (record { text = text; place = place }) v;

@@ -8,3 +8,13 @@ mod NumberLemmas
 mod ApartLemmas
 mod ExpressionLemmas
 mod GivesLemmas
+mod StatementLemmas
+mod DeclarationLemmas
+mod BranchLemmas
+mod LoopLemmas
+mod UnitLemmas
+mod DirectiveLemmas
+mod MarkLemmas
+mod ParallelLemmas
+mod SpeltLemmas
+pub mod ReadBackLaws

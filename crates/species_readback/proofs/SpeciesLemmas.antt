@@ -301,7 +301,7 @@ alone_pragma t p ps a plain goes =
     ∙ alone_species t p ps a goes
 
 -- a line whose content is all of it
-whole_line : (bytes : List ℕ) (ps : List Part) → is_include (35 ∷ bytes) ≡ false → Scan 1 bytes ps → form_of (35 ∷ bytes) ≡ parts_form (35 ∷ bytes) ps
+pub whole_line : (bytes : List ℕ) (ps : List Part) → is_include (35 ∷ bytes) ≡ false → Scan 1 bytes ps → form_of (35 ∷ bytes) ≡ parts_form (35 ∷ bytes) ps
 unfolding form_of
 whole_line bytes ps goes s =
     let whole : content_len bytes ≡ length bytes = is_whole 1 bytes ps s in

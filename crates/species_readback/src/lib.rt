@@ -1,10 +1,17 @@
-//! The law of reading back: what is printed is read again as what it was.
+//! The laws of reading back: what is printed is read again as what it was.
 #![tactic(auto)]
 
 ghost use Rattle.species_readback.specs.Law.{TakesSpeciesBack};
+ghost use Rattle.species_readback.specs.ReadBack.{ReadsBack};
 
 /// A species text that is taken from a line is taken again, byte for byte, from the line that is
 /// printed with it.
 pub fn law_species_text()
     ensures { TakesSpeciesBack }
+{}
+
+/// The canonical text of each unit that can be written, and whose names mean what they should, is cut
+/// into exactly one list of tokens, and these derive the unit, up to places.
+pub fn law_read_back()
+    ensures { ReadsBack }
 {}
