@@ -1,11 +1,10 @@
 -- A parallel line is one token: of each depth and schedule, whatever the chunk.
 use Prim.Native.String.{String}
-use Rattle.std.proofs.Common.{◌≡◌, ◌∙◌, ap, sym, refl, subst, ℕ, suc, ◌+◌, ◌-◌, ◌<◌, ◌≤◌, Bool, true, false, List, [], ◌∷◌, ◌++◌, length, take, drop, Some, None, arith, length-drop, length-append, append_assoc, append-nil, nat_eq, pos}
-use Rattle.std.proofs.lemmas.Bool.{and_parts, and_from, and_right, leb-true, le-leb, ltb-true, ltb-false, ne_eqb}
-use Rattle.std.proofs.lemmas.List.{drop-append-le}
+use Rattle.std.proofs.Common.{◌≡◌, ◌∙◌, ap, sym, refl, subst, ℕ, suc, ◌+◌, ◌≤◌, Bool, true, false, List, [], ◌∷◌, ◌++◌, length, take, Some, None, arith, append_assoc, append-nil, nat_eq, pos}
+use Rattle.std.proofs.lemmas.Bool.{and_parts, and_from, leb-true, le-leb, ltb-true, ltb-false, ne_eqb}
 use Rattle.std.proofs.Math.Seq.{take-append_seam, drop-append_seam}
 use Rattle.std.specs.Prelude.{◌&&◌, not, nat_le, nat_lt, if◌then◌else◌, codes, decimal, option_map, option_and_then}
-use Rattle.std.specs.List.{list_all, ends_with}
+use Rattle.std.specs.List.{list_all}
 use Rattle.std.specs.Cmp.Lexicographic.{pointwise}
 use Rattle.species_ast.specs.declared.tree.Kind.TheVariants as of_kind
 use Rattle.species_ast.specs.declared.tree.Mark.TheVariants as mark
@@ -27,6 +26,7 @@ use Rattle.species_readback.proofs.NumberLemmas.{Plain, decimal_plain, literal_i
 use Rattle.species_readback.proofs.DirectiveLemmas.{IsDirective}
 use Rattle.species_readback.proofs.ScanLemmas.{Scan, part_at}
 use Rattle.species_readback.proofs.SpeciesLemmas.{whole_line}
+use Rattle.species_readback.proofs.EndLemmas.{not_spliced_at}
 
 -- ---- numbers among the parts of a line
 
@@ -210,28 +210,6 @@ schedule_parts (schedule.StaticBy n) i h = let k = and_parts (nat_le 1 n) (is_in
 schedule_parts (schedule.DynamicBy n) i h = let k = and_parts (nat_le 1 n) (is_int n) h in dynamic_by_parts n i k.0 (digits_of n k.1)
 schedule_parts schedule.Guided i h = guided_parts i
 
--- ---- a line that ends in a bracket ends in no backslash
-
-ends_in_bracket : (f : List ℕ) → 0 < length f → last_backslash (f ++ (41 ∷ [])) ≡ None
-ends_in_bracket f some =
-    let line = f ++ (41 ∷ []) in
-    let one : length line - 1 ≡ length f = omega (arith, length-append f (41 ∷ [])) in
-    let two : length line - 2 ≡ length f - 1 = omega (arith, length-append f (41 ∷ [])) in
-    let le : length f - 1 ≤ length f = omega arith in
-    let short : length (drop (length f - 1) f) ≡ 1 = omega (arith, length-drop (length f - 1) f, some) in
-    let a : ends_with nat_eq line (codes "\\") ≡ false = ap (λ n. pointwise nat_eq (92 ∷ []) (drop n line)) one ∙ ap (pointwise nat_eq (92 ∷ [])) (drop-append_seam f (41 ∷ [])) in
-    let b : ends_with nat_eq line (codes "\\\r") ≡ false =
-    ap (λ n. pointwise nat_eq (92 ∷ 13 ∷ []) (drop n line)) two
-    ∙ ap (pointwise nat_eq (92 ∷ 13 ∷ [])) (drop-append-le (length f - 1) f (41 ∷ []) le)
-    ∙ last (drop (length f - 1) f) short in
-    ap (λ c. if c then Some (length line - 1) else (if ends_with nat_eq line (codes "\\\r") then Some (length line - 2) else None)) a
-    ∙ ap (λ c. if c then Some (length line - 2) else None) b
-  where
-    last : (z : List ℕ) → length z ≡ 1 → pointwise nat_eq (92 ∷ 13 ∷ []) (z ++ (41 ∷ [])) ≡ false
-    last [] e = let x : ⊥ = omega (arith, e) in absurd x
-    last (x ∷ []) e = and_right (nat_eq 92 x) false refl
-    last (x ∷ y ∷ z) e = let x : ⊥ = omega (arith, e) in absurd x
-
 -- ---- a line of `#pragma omp parallel for` and more
 
 abbrev words : List Part → List Part
@@ -275,7 +253,7 @@ directive_of depth s text b =
       more = more;
       begins = refl;
       one_line = b.feeds;
-      whole = ap (λ z. last_backslash (head ++ z)) b.ends ∙ ends_in_bracket (head ++ b.front) (omega arith);
+      whole = ap (λ z. last_backslash (head ++ z)) b.ends ∙ not_spliced_at (head ++ b.front) 41 (omega arith) refl refl;
       is_form = whole_line more (part 1 "pragma" ∷ words b.parts) refl (words_scan b.more b.parts b.scan)
           ∙ words_form (35 ∷ more) (kind.Parallel depth s) b.parts b.no_backslash b.is_parallel;
       is_kind = λ n. refl;

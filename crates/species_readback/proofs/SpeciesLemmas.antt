@@ -186,6 +186,7 @@ end_after at t w v (Scan.part _ b bytes n ps g f h len s) = omega (arith, end_pa
 
 -- what stands alone behind `#pragma species `: the same parts, from the sixteenth byte on
 record Alone (t : List ℕ) (p : Part) (ps : List Part) : Type 0 where
+  scan : Scan p.at t (p ∷ ps)
   moved : Moved p.at 16 t (p ∷ ps)
   size : ℕ
   ends : parts_end p.at (p ∷ ps) ≡ p.at + size
@@ -208,8 +209,10 @@ alone_from h bytes t p ps g stands s text =
     slice_is h bytes n g k fits
     ∙ ap (λ i. slice_range (h ∷ bytes) i (i + k)) (sym at_is)
     ∙ ap (λ e. slice_range (h ∷ bytes) p.at e) (sym ends) ∙ text in
+    let cut = subst (λ z. Scan p.at z (p ∷ ps)) is (cut_scan p.at content (p ∷ ps) s k ends) in
     record {
-      moved = move p.at 16 t (p ∷ ps) (subst (λ z. Scan p.at z (p ∷ ps)) is (cut_scan p.at content (p ∷ ps) s k ends));
+      scan = cut;
+      moved = move p.at 16 t (p ∷ ps) cut;
       size = k;
       ends = ends;
       cut = ap (take k) (sym is) ∙ take_twice k content ∙ is;
@@ -381,6 +384,34 @@ found_in line t all s h = one h.head h.tail h.parts h.has
 
     one : (o : Part) (tail : List Part) → all ≡ o ∷ tail → HasPragma line t tail → Found line t
     one o tail e p = two o tail e p.second p.more p.parts p.no_backslash p.has
+
+-- The parts of a species text that is taken from a line: they stand in the text from its first byte to its last.
+pub record Given (line t : List ℕ) : Type 0 where
+  pub at : ℕ
+  pub first : Part
+  pub rest : List Part
+  pub scan : Scan at t (first ∷ rest)
+  pub ends : parts_end at (first ∷ rest) ≡ at + length t
+  pub plain : offset_of (codes "\\") (first ∷ rest) ≡ None
+  pub text : slice_range line at (parts_end at (first ∷ rest)) ≡ t
+
+pub given_text : (b : ℕ) (bytes t : List ℕ) → IsSpecies (form_of (b ∷ bytes)) t → Given (b ∷ bytes) t
+given_text b bytes t h =
+    go (found_in (b ∷ bytes) t (parts_of 1 (content_of (b ∷ bytes))) (content_scan bytes) (line_parts (b ∷ bytes) t h))
+  where
+    go : Found (b ∷ bytes) t → Given (b ∷ bytes) t
+    go f =
+        let a = alone_from b bytes t f.first f.rest f.gap f.stands f.scan f.text in
+        let within = end_within f.first.at t (f.first ∷ f.rest) a.scan in
+        record {
+          at = f.first.at;
+          first = f.first;
+          rest = f.rest;
+          scan = a.scan;
+          ends = omega (arith, a.ends, within, length-take a.size t, ap length a.cut);
+          plain = f.plain;
+          text = f.text;
+        }
 
 taken_back : (line t : List ℕ) → IsSpecies (form_of line) t → IsSpecies (form_of (alone_line t)) t
 taken_back [] t h = go (line_parts [] t h)

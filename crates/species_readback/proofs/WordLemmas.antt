@@ -135,7 +135,7 @@ letter_word b h = ap (λ c. c || is_digit b) h
 goes_on_word : (last b : ℕ) → is_word b ≡ true → goes_on last b ≡ true
 goes_on_word last b h = ap (λ c. c || nat_eq b 46 || (is_sign b && is_exponent last)) h
 
-stops_number : (last b : ℕ) → continues b ≡ false → goes_on last b ≡ false
+pub stops_number : (last b : ℕ) → continues b ≡ false → goes_on last b ≡ false
 stops_number last b h =
     let k = or_false (is_word b) (nat_eq b 46 || is_sign b) h in
     let l = or_false (nat_eq b 46) (is_sign b) k.1 in

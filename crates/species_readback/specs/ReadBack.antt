@@ -1,13 +1,15 @@
 -- The law of reading back: what is printed is read again as the same unit, up to places.
-use Rattle.std.specs.Prelude.{◌≡◌, List}
+use Rattle.std.specs.Prelude.{◌≡◌, ℕ, List}
+use Rattle.species_ast.specs.Strip.{source_of}
 use Rattle.species_ast.specs.Token.{Token}
-use Rattle.species_ast.specs.Reading.{HasTokens}
+use Rattle.species_ast.specs.Reading.{HasTokens, Reads}
 use Rattle.species_ast.specs.Grammar.Units.{Derives}
 use Rattle.species_ast.specs.Scope.Programs.{program_of}
+use Rattle.species_ast.specs.Scope.Conditions.{IsLawful}
 use Rattle.species_ast.specs.declared.raw.RawUnit.{RawUnit}
 use Rattle.species_ast.specs.declared.tree.Unit.{Unit}
 use Rattle.species_print.specs.Units.{canonical_text}
-use Rattle.species_readback.specs.Spelt.{IsSpelt}
+use Rattle.species_readback.specs.Spelt.{IsSpelt, HasSpeltMarks}
 use Rattle.species_readback.specs.Meant.{IsMeant}
 use Rattle.species_readback.specs.Unplaced.{unplaced_unit}
 
@@ -25,3 +27,13 @@ pub record IsReadBack (u : Unit) : Type 0 where
 -- parallel marks, and its additions may be atomic.
 abbrev pub ReadsBack : Type 0
 ReadsBack = (u : Unit) → IsSpelt u → IsMeant u → IsReadBack u
+
+-- What a text that is read becomes, where nothing in it is refused, is read back.
+abbrev pub LawfulReadsBack : Type 0
+LawfulReadsBack = (text : List ℕ) (raw : RawUnit) → Reads text raw → IsLawful raw → IsReadBack (program_of raw).unit
+
+-- So is each unit that has the source of such a one, whatever its species lines, its parallel marks and its atomic additions
+-- are, as long as the lines and marks can be written: for what the later passes set.
+abbrev pub MarkedReadsBack : Type 0
+MarkedReadsBack = (text : List ℕ) (raw : RawUnit) → Reads text raw → IsLawful raw
+    → (u : Unit) → source_of u ≡ source_of (program_of raw).unit → HasSpeltMarks u → IsReadBack u

@@ -3,7 +3,7 @@
 use Rattle.std.specs.Prelude.{◌≡◌, ℕ, suc, ℤ, pos, negsuc, Bool, true, false, not, ◌&&◌, nat_le, nat_lt, bytes_eq, is_none, List, [], ◌∷◌, ◌++◌, map, codes, Option, Some, None}
 use Rattle.std.specs.List.{list_all}
 use Rattle.species_ast.specs.Line.{Line}
-use Rattle.species_ast.specs.Marks.{all_true}
+use Rattle.species_ast.specs.Marks.{all_true, test_step, test_layer}
 use Rattle.species_ast.specs.Names.{is_name}
 use Rattle.species_ast.specs.Operators.{kind_of, number_of}
 use Rattle.species_ast.specs.declared.tree.Array.{Array}
@@ -151,3 +151,13 @@ pub record IsSpelt (u : Unit) : Type 0 where
   pub arrays : list_all array_spelt u.arrays ≡ true
   pub function : is_name u.function ≡ true
   pub body : list_all (λ s. s []) (map (spelt u) u.body) ≡ true
+
+-- ---- lines and marks alone
+
+-- the species lines and parallel marks of the statement can be written
+abbrev pub marks_spelt : Stmt → Bool
+marks_spelt = fold-Stmt Bool Bool (test_step (λ atomic. true)) (test_layer (λ l. line_spelt l.line && mark_spelt l.mark))
+
+-- those of the unit
+abbrev pub HasSpeltMarks : Unit → Type 0
+HasSpeltMarks u = list_all marks_spelt u.body ≡ true

@@ -2,7 +2,7 @@
 #![tactic(auto)]
 
 ghost use Rattle.species_readback.specs.Law.{TakesSpeciesBack};
-ghost use Rattle.species_readback.specs.ReadBack.{ReadsBack};
+ghost use Rattle.species_readback.specs.ReadBack.{ReadsBack, LawfulReadsBack, MarkedReadsBack};
 
 /// A species text that is taken from a line is taken again, byte for byte, from the line that is
 /// printed with it.
@@ -14,4 +14,15 @@ pub fn law_species_text()
 /// into exactly one list of tokens, and these derive the unit, up to places.
 pub fn law_read_back()
     ensures { ReadsBack }
+{}
+
+/// What a text becomes that is read, and in which nothing is refused, is read back from its canonical text.
+pub fn law_lawful_read_back()
+    ensures { LawfulReadsBack }
+{}
+
+/// So is each unit with the same source, whatever its species lines, its parallel marks and its atomic
+/// additions are, as long as the lines and marks can be written.
+pub fn law_marked_read_back()
+    ensures { MarkedReadsBack }
 {}
