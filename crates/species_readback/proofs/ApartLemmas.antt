@@ -26,7 +26,7 @@ use Rattle.species_print.specs.Printed.{Printed, Lexeme, text_of, spaced, punctu
 use Rattle.species_print.specs.Expressions.{Operand, expr_step, expr_printed, array_name, local_name, iter_name, kind_words, is_minus, at_least, behind_unary, bracketed, subscript, literal_printed, level_at, level_of, negation_at, is_negation}
 use Rattle.species_readback.proofs.TokenLemmas.{Stands, Apart, head_after, apart_append}
 use Rattle.species_readback.proofs.WordLemmas.{Ends, continues, letter_above, digit_within, stands_name, stands_keyword}
-use Rattle.species_readback.proofs.NumberLemmas.{small_number, stands_decimal, stands_literal, unsigned_suffix, long_suffix, unsigned_long_suffix, decimal_first}
+use Rattle.species_readback.proofs.NumberLemmas.{small_number, stands_int, stands_literal, unsigned_suffix, long_suffix, unsigned_long_suffix, decimal_first}
 use Rattle.species_readback.specs.Spelt.{is_literal, expr_spelt, is_spelt}
 use Rattle.species_ast.specs.Signs.{unary_sign, binary_sign, binary_level}
 
@@ -257,7 +257,7 @@ ends_subs printed [] rest e = e
 ends_subs printed (x ∷ es) rest e = refl
 
 spaced_literal : (v : Value) → is_literal v ≡ true → Spaced (literal_printed v)
-spaced_literal (value.Int (pos n)) w = λ h rest e. (stands_decimal h n rest w e, refl, tt)
+spaced_literal (value.Int (pos n)) w = λ h rest e. (stands_int h n rest w e, refl, tt)
 spaced_literal (value.Int (negsuc n)) w = cc
 spaced_literal (value.Unsigned n) w = λ h rest e. (stands_literal h (codes "u") of_kind.Unsigned n rest unsigned_suffix w e, refl, tt)
 spaced_literal (value.Long (pos n)) w = λ h rest e. (stands_literal h (codes "ll") of_kind.Long n rest long_suffix w e, refl, tt)

@@ -93,7 +93,7 @@ dropped s inner n v = walk.fragment [] (walk.names_only (local_names s n v)) inn
 abbrev kept : Kind → Scope → Scope → Spelling → Option ExprReading → walk.Fragment
 kept k s inner n v = walk.fragment (walk.kept_local k n v s) (record { locals = record { name = n.text; kind = k } ∷ []; names = local_names s n v; loops = [] }) inner
 
--- one piece as a list
+-- one fragment as a list
 abbrev alone : walk.Fragment → walk.Fragment
 alone f = walk.fragment (f.statements ++ []) (walk.both f.notes walk.no_notes) f.next
 

@@ -1,4 +1,4 @@
--- What holds of the tokens of pieces, at whatever place: composed without naming places.
+-- What holds of the tokens of printed lexemes, at whatever place: composed without naming places.
 use Rattle.std.proofs.Common.{◌≡◌, ◌∙◌, ap, sym, refl, subst, ℕ, ◌+◌, List, [], ◌∷◌, ◌++◌, length, append-nil, codes}
 use Rattle.species_ast.specs.Token.{Token}
 use Rattle.species_ast.specs.declared.token.TokenKind.{TokenKind}

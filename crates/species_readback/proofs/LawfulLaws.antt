@@ -1,6 +1,6 @@
 -- The unit of a lawful program is read back from its canonical text.
 use Rattle.std.proofs.Common.{◌≡◌, ◌∙◌, ap, sym, refl, ℕ, suc, zero, ◌*◌, ◌≤◌, Bool, true, false, List, [], ◌∷◌, ◌++◌, map, Option, Some, None, arith, pos, negsuc, ℤ}
-use Rattle.std.proofs.lemmas.Bool.{and_parts, and_from, leb-true, le-leb, ltb-false, not-true}
+use Rattle.std.proofs.lemmas.Bool.{and_parts, and_from, leb-true, ltb-false, not-true}
 use Rattle.std.specs.Prelude.{◌&&◌, not, nat_le, nat_lt, if◌then◌else◌}
 use Rattle.std.specs.List.{list_all, filter, flat_map}
 use Rattle.species_ast.specs.declared.tree.Array.{Array}
@@ -25,7 +25,7 @@ use Rattle.species_ast.proofs.Folds.{fold_stmt-Assign, fold_stmt-AddTo, fold_stm
 use Rattle.species_ast.proofs.Induction.{Each, each_all, StmtCases, stmt_ind}
 use Rattle.species_ast.proofs.LimitLaws.{not_refused-keeps}
 use Rattle.species_lawful.proofs.WalkLaws.{same_names}
-use Rattle.species_readback.specs.Spelt.{is_int, is_int_step}
+use Rattle.species_readback.specs.Spelt.{is_int_number, is_int_step}
 use Rattle.species_readback.specs.ReadBack.{LawfulReadsBack}
 use Rattle.species_readback.proofs.LawfulLemmas.{is_kept_as, is_fine, all_split}
 use Rattle.species_readback.proofs.KeptLemmas.{all_same}
@@ -38,6 +38,7 @@ use Rattle.species_ast.specs.Scope.Magnitudes.{passes_bound}
 use Rattle.species_ast.specs.Scope.Nests.{is_bad_mark}
 use Rattle.species_readback.specs.Spelt.{IsSpelt}
 use Rattle.species_readback.specs.Meant.{IsMeant}
+use Rattle.species_readback.proofs.NumberLemmas.{int_within}
 
 -- ---- where nothing is refused
 
@@ -114,13 +115,13 @@ size_within (suc n) (suc m) a b = (omega arith, omega arith, omega arith)
 size_within zero m a b = let x : ⊥ = omega (arith, a) in absurd x
 size_within (suc n) zero a b = let x : ⊥ = omega (arith, b) in absurd x
 
-sizes_within : (dims : List ℕ) → list_all (nat_le 1) dims ≡ true → (1 ≤ product dims) × ((most : ℕ) → product dims ≤ most → most ≤ 2147483647 → list_all is_int dims ≡ true)
+sizes_within : (dims : List ℕ) → list_all (nat_le 1) dims ≡ true → (1 ≤ product dims) × ((most : ℕ) → product dims ≤ most → most ≤ 2147483647 → list_all is_int_number dims ≡ true)
 sizes_within [] h = (omega arith, λ most le small. refl)
 sizes_within (n ∷ dims) h =
     let k = and_parts (nat_le 1 n) (list_all (nat_le 1) dims) h in
     let more = sizes_within dims k.1 in
     let w = size_within n (product dims) (leb-true 1 n k.0) more.0 in
-    (w.2, λ most le small. and_from _ _ (le-leb n 2147483647 (omega (arith, w.0, le, small))) (more.1 most (omega (arith, w.1, le)) small))
+    (w.2, λ most le small. and_from _ _ (int_within n (omega (arith, w.0, le, small))) (more.1 most (omega (arith, w.1, le)) small))
 
 lawful_fit : (a : Array) → not (not (has_lawful_sizes a)) ≡ true → sizes_fit a ≡ true
 lawful_fit a h = go (has_lawful_sizes a) refl h
@@ -145,8 +146,8 @@ arrays_fit p h =
 -- ---- steps
 
 near_step : (z : ℤ) → not (is_too_far z) ≡ true → is_int_step z ≡ true
-near_step (pos n) h = le-leb n 2147483647 (omega (arith, ltb-false 65536 n (not-true (nat_lt 65536 n) h)))
-near_step (negsuc n) h = le-leb (suc n) 2147483647 (omega (arith, ltb-false 65536 (suc n) (not-true (nat_lt 65536 (suc n)) h)))
+near_step (pos n) h = int_within n (omega (arith, ltb-false 65536 n (not-true (nat_lt 65536 n) h)))
+near_step (negsuc n) h = int_within (suc n) (omega (arith, ltb-false 65536 (suc n) (not-true (nat_lt 65536 (suc n)) h)))
 
 -- a statement whose loops keep the limits has steps of `int`
 abbrev KeepsSteps : Stmt → Type 0

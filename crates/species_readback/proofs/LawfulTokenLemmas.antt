@@ -29,9 +29,8 @@ use Rattle.species_ast.specs.Text.Words.{punctuator_len}
 use Rattle.species_ast.specs.Text.Stream.{TokenStream, Definition, look_up, named, define_once, in_scope, defined_by, Cut, is_definition}
 use Rattle.species_ast.specs.Reading.{HasTokens}
 use Rattle.species_readback.proofs.LawfulLemmas.{is_good}
-use Rattle.species_readback.specs.Spelt.{is_int, is_no_line_feed, is_literal, schedule_spelt}
+use Rattle.species_readback.specs.Spelt.{is_int_number, is_no_line_feed, is_literal, schedule_spelt}
 use Rattle.std.specs.Prelude.{nat_lt}
-use Rattle.std.proofs.lemmas.Bool.{ltb-true}
 use Rattle.species_ast.specs.declared.tree.Kind.{Kind}
 use Rattle.species_ast.specs.declared.tree.Kind.TheVariants as of_kind
 use Rattle.species_ast.specs.Text.Characters.{is_hex_digit}
@@ -101,15 +100,15 @@ schedule_either false a b x y = y
 good_plain : (w : Part) → GoodSchedule (plain_schedule w)
 good_plain w = schedule_either (is w (codes "static")) (Some schedule.Static) (if is w (codes "guided") then Some schedule.Guided else None) refl (schedule_either (is w (codes "guided")) (Some schedule.Guided) None refl tt)
 
-int_within : (o : Option Value) → GoodValue o → is_int (int_of o) ≡ true
-int_within None h = refl
-int_within (Some (value.Int (pos n))) h = le-leb n 2147483647 (omega (arith, ltb-true n 2147483648 h))
-int_within (Some (value.Int (negsuc n))) h = refl
-int_within (Some (value.Unsigned n)) h = refl
-int_within (Some (value.Long z)) h = refl
-int_within (Some (value.UnsignedLong n)) h = refl
+int_of_good : (o : Option Value) → GoodValue o → is_int_number (int_of o) ≡ true
+int_of_good None h = refl
+int_of_good (Some (value.Int (pos n))) h = h
+int_of_good (Some (value.Int (negsuc n))) h = refl
+int_of_good (Some (value.Unsigned n)) h = refl
+int_of_good (Some (value.Long z)) h = refl
+int_of_good (Some (value.UnsignedLong n)) h = refl
 
-good_by : (w : Part) (n : ℕ) → is_int n ≡ true → GoodSchedule (schedule_by w n)
+good_by : (w : Part) (n : ℕ) → is_int_number n ≡ true → GoodSchedule (schedule_by w n)
 good_by w n h = go (nat_le 1 n) refl
   where
     go : (c : Bool) → nat_le 1 n ≡ c → GoodSchedule (if not c then None else (if is w (codes "static") then Some (schedule.StaticBy n) else (if is w (codes "dynamic") then Some (schedule.DynamicBy n) else None)))
@@ -119,7 +118,7 @@ good_by w n h = go (nat_le 1 n) refl
 
 good_chunk : (w : Part) (ps : List Part) → GoodSchedule (chunk_of w ps)
 good_chunk w [] = tt
-good_chunk w (n ∷ ps) = schedule_either (is_closed ps) (schedule_by w (int_of (literal_of n.text))) None (good_by w (int_of (literal_of n.text)) (int_within (literal_of n.text) (good_literal n.text))) tt
+good_chunk w (n ∷ ps) = schedule_either (is_closed ps) (schedule_by w (int_of (literal_of n.text))) None (good_by w (int_of (literal_of n.text)) (int_of_good (literal_of n.text) (good_literal n.text))) tt
 
 schedule_then : (f : List Part → Option Schedule) (o : Option (List Part)) → ((ps : List Part) → GoodSchedule (f ps)) → GoodSchedule (option_and_then f o)
 schedule_then f None h = tt
@@ -203,7 +202,7 @@ good_openmp ps =
     (kind_then parallel_of (after_words (codes "omp" ∷ codes "parallel" ∷ codes "for" ∷ []) ps) good_parallel)
     (kind_then atomic_of (after_words (codes "omp" ∷ codes "atomic" ∷ codes "update" ∷ []) ps) good_atomic)
 
--- ---- pieces
+-- ---- what stands at the front of some bytes
 
 -- a token that a directive is, which is no `#include` and no species line
 abbrev OtherForm : Form → Type 0
@@ -342,7 +341,7 @@ good_named : (t : List ℕ) (o : Option Value) → GoodValue o → GoodAs t kind
 good_named t None h k = k
 good_named t (Some v) h k = h
 
--- a piece where its names are looked up
+-- the same, where its names are looked up
 good_once : (o : Option Value) (n : ℕ) (name : List ℕ) (v : Result Value LexRefusal) → GoodPiece (byte.Define n name v) → GoodPiece (define_once o n name v)
 good_once (Some w) n name v h = tt
 good_once None n name (Ok v) h = h

@@ -1,7 +1,7 @@
 -- What a lawful program becomes can be written, and its names mean what they should.
 use Rattle.std.proofs.Common.{◌≡◌, ◌∙◌, ap, sym, refl, subst, ℕ, suc, Bool, true, false, List, [], ◌∷◌, ◌++◌, map, length, Some, None, arith, append_assoc, length-append}
 use Rattle.std.proofs.lemmas.Bool.{and_parts, and_from, eq-eqb}
-use Rattle.std.specs.Prelude.{◌&&◌, nat_le, slice_get, option_map, unwrap_or}
+use Rattle.std.specs.Prelude.{◌&&◌, slice_get, option_map, unwrap_or}
 use Rattle.std.specs.List.{list_all, flat_map, filter_map, cons_option}
 use Rattle.species_ast.specs.Names.{is_name}
 use Rattle.species_ast.specs.Token.{Token}
@@ -27,6 +27,7 @@ use Rattle.species_readback.proofs.KeptLemmas.{Place}
 use Rattle.species_readback.proofs.LawfulStatementLemmas.{Named, is_stepped, items_kept}
 use Rattle.species_readback.specs.Spelt.{is_header, IsSpelt, array_spelt}
 use Rattle.species_readback.specs.Meant.{spell, arrays_scope, body_scope, has_sizes, is_some_size, IsMeant}
+use Rattle.species_readback.specs.Spelt.{is_int_number}
 
 -- ---- by number
 
@@ -134,7 +135,7 @@ unit_known raw ts (TranslationUnit.function b c p q r o f body bs cs us ob oc d)
 -- ---- arrays that can be written
 
 abbrev pub sizes_fit : Array → Bool
-sizes_fit a = list_all (λ n. nat_le n 2147483647) a.dims
+sizes_fit a = list_all is_int_number a.dims
 
 abbrev known_array : ArrayParts → Bool
 known_array a = is_name a.name.text && is_sized a.sizes

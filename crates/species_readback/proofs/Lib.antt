@@ -31,3 +31,4 @@ pub mod LawfulLaws
 mod StrippedLemmas
 mod AlikeLemmas
 pub mod MarkedLaws
+mod ReadBackExamples

@@ -1,7 +1,7 @@
 -- Printed loops derive what they are, and so all statements.
 use Rattle.std.proofs.Common.{◌≡◌, ◌∙◌, ap, sym, refl, subst, ℕ, zero, suc, true, false, List, [], ◌∷◌, ◌++◌, map, Option, Some, None, arith, pos, negsuc, ℤ, append_assoc}
-use Rattle.std.proofs.lemmas.Bool.{and_parts}
-use Rattle.std.specs.Prelude.{◌&&◌, nat_le, codes, decimal, option_map, neg_ℤ, option_and_then, if◌then◌else◌, unwrap_or}
+use Rattle.std.proofs.lemmas.Bool.{le-leb, and_parts}
+use Rattle.std.specs.Prelude.{◌&&◌, codes, decimal, option_map, neg_ℤ, option_and_then, if◌then◌else◌, unwrap_or}
 use Rattle.species_ast.specs.Token.{Token}
 use Rattle.species_ast.specs.Spelling.{Spelling}
 use Rattle.species_ast.specs.Line.{Line}
@@ -48,7 +48,8 @@ use Rattle.species_readback.proofs.StatementLemmas.{Expr0, expr_gives, Becomes, 
 use Rattle.species_readback.proofs.DeclarationLemmas.{declare_claim, block_claim}
 use Rattle.species_readback.proofs.BranchLemmas.{if_claim}
 use Rattle.species_readback.specs.Unplaced.{unplaced, unplaced_at, unplaced_loop, unplaced_line}
-use Rattle.species_readback.specs.Spelt.{is_int_step}
+use Rattle.species_readback.specs.Spelt.{is_int_number, is_int_step}
+use Rattle.species_readback.proofs.NumberLemmas.{within_int}
 use Rattle.species_readback.specs.Meant.{is_meant, list_next, list_locals, list_holds, stmt_meant, loop_meant, meant, inner_scope}
 use Rattle.species_ast.specs.Signs.{test_sign}
 
@@ -58,10 +59,10 @@ walk_occurrence s n = occurrence InHeader s n
 
 -- ---- steps
 
-pub constant_is : (n : ℕ) → nat_le n 2147483647 ≡ true → constant_of (expr.Literal (value.Int (pos n))) ≡ Some (pos n)
+pub constant_is : (n : ℕ) → is_int_number n ≡ true → constant_of (expr.Literal (value.Int (pos n))) ≡ Some (pos n)
 constant_is n h =
     ap (option_and_then (λ f. if is_constant f then Some f.constant else None))
-    (fold_expr-Literal form_step (value.Int (pos n)) ∙ ap (λ c. if c && true then Some (constant_form (pos n)) else None) h)
+    (fold_expr-Literal form_step (value.Int (pos n)) ∙ ap (λ c. if c && true then Some (constant_form (pos n)) else None) (le-leb n 2147483647 (within_int n h)))
 
 record StepParts (s : Scope) (text : List ℕ) (n : ℤ) (ts : List Token) : Type 0 where
   pub raw : RawStep
@@ -71,7 +72,7 @@ record StepParts (s : Scope) (text : List ℕ) (n : ℤ) (ts : List Token) : Typ
   pub is_number : (walk.step_reading raw s).number ≡ Some n
   pub quiet : Quiet (walk.step_reading raw s).names
 
-by_gives : (s : Scope) (text : List ℕ) (sign : List ℕ) (n : ℕ) (z : ℤ) (make : Spelling → RawExpr → RawStep) (f : ℤ → ℤ) → nat_le n 2147483647 ≡ true → f (pos n) ≡ z
+by_gives : (s : Scope) (text : List ℕ) (sign : List ℕ) (n : ℕ) (z : ℤ) (make : Spelling → RawExpr → RawStep) (f : ℤ → ℤ) → is_int_number n ≡ true → f (pos n) ≡ z
     → ((p : ℕ) (i : Spelling) (x : RawExpr) (xs : List Token) → Expression 0 x xs → Step (make i x) (token i.place i.text kind.Name ∷ token p sign kind.Punct ∷ xs))
     → ((i : Spelling) (x : RawExpr) → walk.step_reading (make i x) s ≡ walk.step_by (i ∷ []) f (reading x s))
     → Gives (name text ∷ (spaced sign ++ number n ∷ [])) (StepParts s text z)

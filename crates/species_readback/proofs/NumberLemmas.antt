@@ -1,6 +1,6 @@
 -- The text of a literal is cut as one token, and has its value: four kinds, each with its suffix.
-use Rattle.std.proofs.Common.{◌≡◌, ◌∙◌, ap, sym, refl, subst, ℕ, ◌+◌, ◌*◌, ◌-◌, ◌<◌, ◌^◌, Bool, true, false, List, [], ◌∷◌, ◌++◌, length, take, drop, get_or, Some, None, arith, rules, append-nil, nat_eq, ◌⊎◌, inl, inr, pos}
-use Rattle.std.proofs.lemmas.Bool.{ltb-true, leb-true, lt-ltb, ne_eqb, eqb-true, and_parts, and_from, and_right, or_cases, cases_eq}
+use Rattle.std.proofs.Common.{◌≡◌, ◌∙◌, ap, sym, refl, subst, ℕ, ◌+◌, ◌*◌, ◌-◌, ◌<◌, ◌≤◌, ◌^◌, Bool, true, false, List, [], ◌∷◌, ◌++◌, length, take, drop, get_or, Some, None, arith, rules, append-nil, nat_eq, ◌⊎◌, inl, inr, pos}
+use Rattle.std.proofs.lemmas.Bool.{ltb-true, lt-ltb, ne_eqb, eqb-true, and_parts, and_from, and_right, or_cases, cases_eq}
 use Rattle.std.proofs.Math.Seq.{drop-append_seam, take-append_seam}
 use Rattle.std.proofs.lemmas.Fmt.{digits_decimal, decimal_nonempty, first_decimal, decimal_digit, decimal_is_IsNumeral}
 use Rattle.std.proofs.lemmas.Str.Parse.{IsNumeralModel, numerals_by_fold}
@@ -16,7 +16,7 @@ use Rattle.species_ast.specs.declared.tree.Value.TheVariants as value
 use Rattle.species_ast.specs.declared.token.TokenKind.TheVariants as kind
 use Rattle.species_ast.specs.Text.Characters.{is_digit, is_hex_digit, is_word, begins, run_of}
 use Rattle.species_ast.specs.Text.Numbers.{literal_of, literal_in, is_hex, is_decimal, decimal_value, hex_value, with_digits, asked_kind, numbers_from_0}
-use Rattle.species_readback.specs.Spelt.{is_int}
+use Rattle.species_readback.specs.Spelt.{is_int_number}
 use Rattle.species_readback.proofs.TokenLemmas.{Stands}
 use Rattle.species_readback.proofs.WordLemmas.{Ends, continues, digit_within, run_word, stands_number}
 
@@ -162,15 +162,15 @@ long_suffix = record { runs = refl; ends = refl; asks = refl }
 pub unsigned_long_suffix : IsSuffix (codes "ull") of_kind.UnsignedLong
 unsigned_long_suffix = record { runs = refl; ends = refl; asks = refl }
 
-pub int_number : (n : ℕ) → is_int n ≡ true → nat_lt n (numbers_from_0 of_kind.Int) ≡ true
-int_number n h = lt-ltb n 2147483648 (omega (arith, leb-true n 2147483647 h))
+pub within_int : (n : ℕ) → is_int_number n ≡ true → n ≤ 2147483647
+within_int n h = omega (arith, ltb-true n 2147483648 h)
 
-pub stands_decimal : (h : Bool) (n : ℕ) (rest : List ℕ) → nat_lt n (numbers_from_0 of_kind.Int) ≡ true → Ends continues rest → Stands h (decimal n) (kind.Number (value.Int (pos n))) rest
-stands_decimal h n rest lt e =
+pub int_within : (n : ℕ) → n ≤ 2147483647 → is_int_number n ≡ true
+int_within n le = lt-ltb n 2147483648 (omega (arith, le))
+
+pub stands_int : (h : Bool) (n : ℕ) (rest : List ℕ) → is_int_number n ≡ true → Ends continues rest → Stands h (decimal n) (kind.Number (value.Int (pos n))) rest
+stands_int h n rest lt e =
     subst (λ t. Stands h t (kind.Number (value.Int (pos n))) rest) (append-nil (decimal n)) (stands_literal h [] of_kind.Int n rest no_suffix lt e)
-
-pub stands_int : (h : Bool) (n : ℕ) (rest : List ℕ) → is_int n ≡ true → Ends continues rest → Stands h (decimal n) (kind.Number (value.Int (pos n))) rest
-stands_int h n rest le e = stands_decimal h n rest (int_number n le) e
 
 -- the first byte of a number
 pub decimal_first : (n : ℕ) → n < 2 ^ 64 → (b : ℕ) × (bs : List ℕ) × (decimal n ≡ b ∷ bs) × (is_digit b ≡ true)

@@ -20,9 +20,9 @@ use Rattle.species_ast.specs.Text.Parts.{Part, part_len, offset_of, after_words}
 use Rattle.species_ast.specs.Text.Pragmas.{schedule_of, schedule_by, int_of, deep, depth_behind, parallel_with, parallel_of, openmp_of}
 use Rattle.species_ast.specs.Text.Directives.{Read, parts_form, openmp_form, pragma_with, unless_backslash}
 use Rattle.species_print.specs.Statements.{schedule_text, parallel_text}
-use Rattle.species_readback.specs.Spelt.{is_int, is_no_line_feed, schedule_spelt, mark_spelt}
+use Rattle.species_readback.specs.Spelt.{is_int_number, is_no_line_feed, schedule_spelt, mark_spelt}
 use Rattle.species_readback.proofs.WordLemmas.{Ends, continues, digit_within, no_blank, digit_no_letter, run_number}
-use Rattle.species_readback.proofs.NumberLemmas.{Plain, decimal_plain, literal_is, value_is, no_suffix, int_number, small_number, run_words, digits_run, all_append}
+use Rattle.species_readback.proofs.NumberLemmas.{Plain, decimal_plain, literal_is, value_is, no_suffix, int_within, small_number, run_words, digits_run, all_append}
 use Rattle.species_readback.proofs.DirectiveLemmas.{IsDirective}
 use Rattle.species_readback.proofs.ScanLemmas.{Scan, part_at}
 use Rattle.species_readback.proofs.SpeciesLemmas.{whole_line}
@@ -42,12 +42,11 @@ record Digits (n : ℕ) : Type 0 where
   others : list_all is_digit ds ≡ true
   value : literal_of (d ∷ ds) ≡ Some (value.Int (pos n))
 
-digits_of : (n : ℕ) → is_int n ≡ true → Digits n
+digits_of : (n : ℕ) → is_int_number n ≡ true → Digits n
 digits_of n h =
-    let lt = int_number n h in
-    let small = small_number of_kind.Int n lt in
+    let small = small_number of_kind.Int n h in
     let plain = decimal_plain n small in
-    go (decimal n) refl plain (ap literal_of (sym (append-nil (decimal n))) ∙ literal_is (decimal n) [] of_kind.Int n plain no_suffix (value_is n small) lt)
+    go (decimal n) refl plain (ap literal_of (sym (append-nil (decimal n))) ∙ literal_is (decimal n) [] of_kind.Int n plain no_suffix (value_is n small) h)
   where
     go : (w : List ℕ) → decimal n ≡ w → Plain w → literal_of w ≡ Some (value.Int (pos n)) → Digits n
     go [] e p l = let x : ⊥ = omega (arith, p.1) in absurd x
@@ -206,8 +205,8 @@ dynamic_by_parts n i a g =
 
 schedule_parts : (s : Schedule) (i : ℕ) → schedule_spelt s ≡ true → ScheduleParts s i (schedule_text s)
 schedule_parts schedule.Static i h = static_parts i
-schedule_parts (schedule.StaticBy n) i h = let k = and_parts (nat_le 1 n) (is_int n) h in static_by_parts n i k.0 (digits_of n k.1)
-schedule_parts (schedule.DynamicBy n) i h = let k = and_parts (nat_le 1 n) (is_int n) h in dynamic_by_parts n i k.0 (digits_of n k.1)
+schedule_parts (schedule.StaticBy n) i h = let k = and_parts (nat_le 1 n) (is_int_number n) h in static_by_parts n i k.0 (digits_of n k.1)
+schedule_parts (schedule.DynamicBy n) i h = let k = and_parts (nat_le 1 n) (is_int_number n) h in dynamic_by_parts n i k.0 (digits_of n k.1)
 schedule_parts schedule.Guided i h = guided_parts i
 
 -- ---- a line of `#pragma omp parallel for` and more
@@ -331,7 +330,7 @@ parallel_directive depth s h = go (nat_lt 1 depth) refl
     go : (c : Bool) → nat_lt 1 depth ≡ c → IsDirective (parallel_text depth s) (kind.Parallel depth s)
     go true e =
         let two : 2 ≤ depth = omega (arith, ltb-true 1 depth e) in
-        let int : is_int depth ≡ true = le-leb depth 2147483647 (omega (arith, most)) in
+        let int : is_int_number depth ≡ true = int_within depth (omega (arith, most)) in
         subst (λ z. IsDirective (head ++ (z ++ schedule_text s)) (kind.Parallel depth s))
         (sym (ap (λ c. if c then codes " collapse(" ++ (decimal depth ++ codes ")") else []) e))
         (directive_of depth s ((codes " collapse(" ++ (decimal depth ++ codes ")")) ++ schedule_text s) (more_loops depth s (le-leb 2 depth two) others.0 (digits_of depth int) others.1))

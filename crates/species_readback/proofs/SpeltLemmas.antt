@@ -1,7 +1,7 @@
 -- What is printed of statements and units is lines, and no token runs into what stands behind it.
 use Rattle.std.proofs.Common.{◌≡◌, ◌∙◌, ap, sym, refl, subst, ℕ, zero, suc, Bool, true, false, List, [], ◌∷◌, ◌++◌, map, Option, Some, None, pos, negsuc, ℤ}
 use Rattle.std.proofs.lemmas.Bool.{and_parts}
-use Rattle.std.specs.Prelude.{◌||◌, ◌&&◌, nat_le, codes}
+use Rattle.std.specs.Prelude.{◌||◌, ◌&&◌, codes}
 use Rattle.std.specs.List.{list_all, flat_map}
 use Rattle.species_ast.specs.Line.{Line}
 use Rattle.species_ast.specs.Names.{is_name}
@@ -38,6 +38,7 @@ use Rattle.species_readback.proofs.StatementLemmas.{layouts}
 use Rattle.species_readback.specs.Spelt.{mark_spelt, is_header, is_spelt, is_int_step, stmt_spelt, init_spelt, spelt, line_spelt, IsSpelt, loop_spelt, array_spelt}
 use Rattle.species_ast.specs.Signs.{test_sign}
 use Rattle.species_readback.proofs.ParallelLemmas.{parallel_directive}
+use Rattle.species_readback.specs.Spelt.{is_int_number}
 
 -- ---- lines
 
@@ -336,10 +337,10 @@ include_lines (t ∷ headers) h =
     let k = and_parts (is_header t) (list_all is_header headers) h in
     lines_append (include_line t) (flat_map include_line headers) (directive_lines [] t kind.Include refl refl (header_directive t k.0)) (include_lines headers k.1)
 
-sizes_apart : (dims : List ℕ) → list_all (λ n. nat_le n 2147483647) dims ≡ true → Spaced (flat_map size dims)
+sizes_apart : (dims : List ℕ) → list_all is_int_number dims ≡ true → Spaced (flat_map size dims)
 sizes_apart [] h = λ k rest e. tt
 sizes_apart (n ∷ dims) h = λ k rest e.
-    let c = and_parts (nat_le n 2147483647) (list_all (λ n. nat_le n 2147483647) dims) h in
+    let c = and_parts (is_int_number n) (list_all is_int_number dims) h in
     (stands_left k _, refl, (stands_int false n _ c.0 refl, refl, (stands_right false _, refl, sizes_apart dims c.1 false rest e)))
 
 ends_sizes : (dims : List ℕ) (rest : List ℕ) → Ends continues rest → Ends continues (text_of (flat_map size dims) ++ rest)
@@ -350,7 +351,7 @@ array_lines : (arrays : List Array) → list_all array_spelt arrays ≡ true →
 array_lines [] h = lines_nil
 array_lines (a ∷ arrays) h =
     let k = and_parts (array_spelt a) (list_all array_spelt arrays) h in
-    let l = and_parts (is_name a.name) (list_all (λ n. nat_le n 2147483647) a.dims) k.0 in
+    let l = and_parts (is_name a.name) (list_all is_int_number a.dims) k.0 in
     lines_append (array_line a) (flat_map array_line arrays)
     (line_lines [] (kind_words a.kind ++ (space ∷ name a.name ∷ (flat_map size a.dims ++ punctuator ";" ∷ []))) refl (λ rest.
     kind_apart true a.kind (space ∷ name a.name ∷ (flat_map size a.dims ++ punctuator ";" ∷ [])) (10 ∷ rest) refl

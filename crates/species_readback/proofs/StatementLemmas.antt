@@ -70,7 +70,7 @@ target_gives u it s text es h =
 
 -- ---- what is claimed of a statement and of a list
 
--- what a piece of program becomes
+-- what a fragment of program becomes
 pub record Becomes (p : walk.Fragment) (us : List Stmt) (nx : Scope) (ls : List LocalInfo) : Type 0 where
   pub is_statements : map unplaced p.statements ≡ us
   pub is_next : p.next ≡ nx
@@ -103,7 +103,7 @@ map_append : {X Y : Type 0} (f : X → Y) (a b : List X) → map f (a ++ b) ≡ 
 map_append f [] b = refl
 map_append f (x ∷ a) b = ap (λ z. f x ∷ z) (map_append f a b)
 
--- one piece behind another
+-- one fragment behind another
 then_becomes : (p : walk.Walk) (ps : List walk.Walk) (s t : Scope) (x : Stmt) (xs : List Stmt) (nx : Scope) (k ls : List LocalInfo)
     → Becomes (p s) (x ∷ []) t k → Becomes (walk.in_order ps t) xs nx ls → Becomes (walk.in_order (p ∷ ps) s) (x ∷ xs) nx (k ++ ls)
 then_becomes p ps s t x xs nx k ls a b =

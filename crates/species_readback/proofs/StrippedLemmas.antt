@@ -66,7 +66,7 @@ stripped-For {X} {Y} step at l =
     ∙ fold-roll-Stmt X Y step at (Stmt-F.For (fold-Loop Stmt Loop strip_step (strip_layer false) (roll-Loop l)))
     ∙ ap (λ z. step (Stmt-F.For z)) (ap (fold-Loop X Y step at) (fold_loop strip_step (strip_layer false) l) ∙ fold_loop step at (bare l))
 
-whole-For : {X Y : Type 0} (step : Stmt-F X Y → X) (at : Loop-F X Y → Y) (l : Loop-F Stmt Loop)
+pub whole-For : {X Y : Type 0} (step : Stmt-F X Y → X) (at : Loop-F X Y → Y) (l : Loop-F Stmt Loop)
     → fold-Stmt X Y step at (stmt.For (roll-Loop l)) ≡ step (Stmt-F.For (at (folded_layer step at l)))
 whole-For step at l = fold_stmt-For step at (roll-Loop l) ∙ ap (λ z. step (Stmt-F.For z)) (fold_loop step at l)
 

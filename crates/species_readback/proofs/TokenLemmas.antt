@@ -1,4 +1,4 @@
--- A text that is made of pieces is cut into its tokens, whatever the syntax: one lemma over lists of pieces.
+-- A text that is printed lexeme by lexeme is cut into these as its tokens, whatever the syntax: one lemma over lists of lexemes and blanks.
 use Rattle.std.proofs.Common.{◌≡◌, ◌∙◌, ap, sym, refl, subst, ℕ, ◌+◌, Bool, true, false, List, [], ◌∷◌, ◌++◌, length, drop, None, arith, append-nil, append_assoc, nat_eq}
 use Rattle.std.proofs.Math.Seq.{drop-append_seam}
 use Rattle.std.proofs.lemmas.Grind.{flat_map-append}
@@ -30,7 +30,7 @@ Apart h [] more = Unit {0}
 Apart h (Lexeme t k ∷ ps) more = Stands h t k (text_of ps ++ more) × (is_definition k ≡ false) × Apart false ps more
 Apart h (Blank bs ∷ ps) more = (list_all is_blank bs ≡ true) × Apart (head_behind h bs) ps more
 
--- whether only blanks stand on the line behind the pieces
+-- whether only blanks stand on the line behind them
 abbrev pub head_after : Bool → List Printed → Bool
 head_after h [] = h
 head_after h (Lexeme t k ∷ ps) = head_after false ps
@@ -118,6 +118,6 @@ seen (Lexeme t k ∷ ps) place h more (s, d, a) =
     ap (λ c. if not c then token ∷ grammar_tokens rest else grammar_tokens rest) d ∙ ap (λ z. token ∷ z) (seen ps (place + length (spelling t k)) false more a)
 seen (Blank bs ∷ ps) place h more (s, a) = seen ps (place + length bs) (head_behind h bs) more a
 
--- half (1), for any syntax
+-- the tokens of the text, for any syntax
 pub has_tokens : (ps : List Printed) → Apart true ps [] → HasTokens (text_of ps) (tokens_from 0 ps)
 has_tokens ps a = (all_tokens (tokens_from 0 ps), cut_printed ps 0 true a, refl, sym (seen ps 0 true [] a))

@@ -1,7 +1,7 @@
 -- The tokens of a printed unit derive a tree that becomes the unit, up to places.
 use Rattle.std.proofs.Common.{◌≡◌, ◌∙◌, ap, sym, refl, subst, ℕ, suc, ◌+◌, true, false, List, [], ◌∷◌, ◌++◌, map, length, Option, Some, None, arith, pos, ℤ, append_assoc, append-nil}
 use Rattle.std.proofs.lemmas.Bool.{and_parts}
-use Rattle.std.specs.Prelude.{nat_le, codes, decimal, is_none}
+use Rattle.std.specs.Prelude.{codes, decimal, is_none}
 use Rattle.std.specs.List.{list_all, flat_map}
 use Rattle.species_ast.specs.Token.{Token}
 use Rattle.species_ast.specs.Spelling.{Spelling}
@@ -39,6 +39,7 @@ use Rattle.species_readback.proofs.DeclarationLemmas.{kind_gives}
 use Rattle.species_readback.proofs.LoopLemmas.{constant_is, statement_reads}
 use Rattle.species_readback.specs.Meant.{Meant, list_next, list_locals, list_holds, spell, meant, IsMeant, arrays_scope, has_sizes, is_some_size, body_scope}
 use Rattle.species_readback.specs.Unplaced.{unplaced, unplaced_unit}
+use Rattle.species_readback.specs.Spelt.{is_int_number}
 
 -- ---- sizes
 
@@ -49,10 +50,10 @@ record SizesDerivation (s : Scope) (dims : List ℕ) (ts : List Token) : Type 0 
   pub is_length : length (map size_parts raws) ≡ length dims
   pub quiet : Quiet (names_of (map (λ x. x.reads s) (map size_parts raws)))
 
-sizes_reads : (s : Scope) (dims : List ℕ) → list_all (λ n. nat_le n 2147483647) dims ≡ true → (place : ℕ) → SizesDerivation s dims (tokens_from place (flat_map size dims))
+sizes_reads : (s : Scope) (dims : List ℕ) → list_all is_int_number dims ≡ true → (place : ℕ) → SizesDerivation s dims (tokens_from place (flat_map size dims))
 sizes_reads s [] h place = record { raws = []; derives = Subscripts.none; is_dims = refl; is_length = refl; quiet = refl }
 sizes_reads s (n ∷ dims) h place =
-    let k = and_parts (nat_le n 2147483647) (list_all (λ n. nat_le n 2147483647) dims) h in
+    let k = and_parts (is_int_number n) (list_all is_int_number dims) h in
     let d = lowered s 12 0 (expr.Literal (value.Int (pos n))) (number n ∷ []) (omega arith) (number_reads s (decimal n) (value.Int (pos n))) (place + 1) in
     let more = sizes_reads s dims k.1 _ in
     record {
@@ -91,7 +92,7 @@ declarator_of n (r ∷ raws) dims ts e h d = ArrayDeclarator.array n r raws ts d
 
 array_gives : (s : Scope) (a : Array) → has_sizes a ≡ true → Gives (array_line a) (ArrayDerivation s a)
 array_gives s a h =
-    let k = and_parts (is_some_size a.dims) (list_all (λ n. nat_le n 2147483647) a.dims) h in
+    let k = and_parts (is_some_size a.dims) (list_all is_int_number a.dims) h in
     gives_line {F = ArrayDerivation s a} [] (kind_words a.kind ++ (space ∷ name a.name ∷ (flat_map size a.dims ++ punctuator ";" ∷ [])))
     (kind_gives {F = λ ts. (p q : ℕ) × (us : List Token) × SizesDerivation s a.dims us × (ts ≡ token p a.name kind.Name ∷ (us ++ token q (codes ";") kind.Punct ∷ []))} a.kind _
     (λ p ks ts t d. let x = d.3 in let n : Spelling = record { text = a.name; place = d.0 } in let array : RawArray = record { name = n; sizes = x.raws } in record {

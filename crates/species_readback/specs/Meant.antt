@@ -15,7 +15,7 @@ use Rattle.species_ast.specs.Scope.Meanings.{Meaning, Scope, scope_with, scope_w
 use Rattle.species_ast.specs.Scope.Programs.{first_scope}
 use Rattle.species_print.specs.Expressions.{array_name, local_name, iter_name}
 use Rattle.species_print.specs.Statements.{local_kind}
-use Rattle.species_readback.specs.Spelt.{is_literal, is_int, is_int_step}
+use Rattle.species_readback.specs.Spelt.{is_literal, is_int_number, is_int_step}
 
 -- ---- what a name means
 
@@ -144,7 +144,7 @@ is_some_size (n ∷ ns) = true
 
 -- an array has at least one size, and each is that of a literal
 abbrev pub has_sizes : Array → Bool
-has_sizes a = is_some_size a.dims && list_all is_int a.dims
+has_sizes a = is_some_size a.dims && list_all is_int_number a.dims
 
 -- the scope of the function's body
 abbrev pub body_scope : Unit → Scope

@@ -8,6 +8,7 @@ use Rattle.species_ast.specs.Names.{is_name}
 use Rattle.species_ast.specs.Operators.{kind_of, number_of}
 use Rattle.species_ast.specs.declared.tree.Array.{Array}
 use Rattle.species_ast.specs.declared.tree.Kind.{Kind}
+use Rattle.species_ast.specs.declared.tree.Kind.TheVariants as of_kind
 use Rattle.species_ast.specs.declared.tree.Value.{Value}
 use Rattle.species_ast.specs.declared.tree.Mark.{Mark}
 use Rattle.species_ast.specs.declared.tree.Mark.TheVariants as mark
@@ -37,13 +38,13 @@ abbrev pub is_literal : Value → Bool
 is_literal v = is_literal_number (kind_of v) (number_of v)
 
 -- a literal of kind `int` has the number, as a size, a chunk and the size of a step are written
-abbrev pub is_int : ℕ → Bool
-is_int n = nat_le n 2147483647
+abbrev pub is_int_number : ℕ → Bool
+is_int_number n = is_literal_number of_kind.Int (pos n)
 
 -- the size of a step is that of an `int`
 abbrev pub is_int_step : ℤ → Bool
-is_int_step (pos n) = is_int n
-is_int_step (negsuc n) = is_int (suc n)
+is_int_step (pos n) = is_int_number n
+is_int_step (negsuc n) = is_int_number (suc n)
 
 -- ---- expressions
 
@@ -97,7 +98,7 @@ line_spelt (Some l) = is_species_text l.text
 
 -- a chunk is at least 1 (OpenMP 4.5, 2.7.1)
 abbrev pub is_chunk : ℕ → Bool
-is_chunk n = nat_le 1 n && is_int n
+is_chunk n = nat_le 1 n && is_int_number n
 
 abbrev pub schedule_spelt : Schedule → Bool
 schedule_spelt schedule.Static = true
@@ -143,7 +144,7 @@ spelt u = fold-Stmt (List (List ℕ) → Bool) (List (List ℕ) → Bool) (stmt_
 -- ---- units
 
 abbrev pub array_spelt : Array → Bool
-array_spelt a = is_name a.name && list_all is_int a.dims
+array_spelt a = is_name a.name && list_all is_int_number a.dims
 
 -- The unit can be written.
 pub record IsSpelt (u : Unit) : Type 0 where
