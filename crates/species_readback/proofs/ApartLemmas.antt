@@ -29,6 +29,7 @@ use Rattle.species_readback.proofs.WordLemmas.{Ends, continues, letter_above, di
 use Rattle.species_readback.proofs.NumberLemmas.{small_number, stands_int, stands_literal, unsigned_suffix, long_suffix, unsigned_long_suffix, decimal_first}
 use Rattle.species_readback.specs.Spelt.{is_literal, expr_spelt, is_spelt}
 use Rattle.species_ast.specs.Signs.{unary_sign, binary_sign, binary_level}
+use Rattle.species_readback.proofs.ListLemmas.{or_false}
 
 -- ---- the condition: names are names, and literals are those that a text can spell
 
@@ -126,10 +127,6 @@ abbrev pub joins : Unary → ℕ → Bool
 joins unary.Neg b = nat_eq 45 b || nat_eq 61 b
 joins unary.Not b = false
 joins unary.LogNot b = nat_eq 61 b
-
-or_false : (a b : Bool) → a || b ≡ false → (a ≡ false) × (b ≡ false)
-or_false true b h = cc
-or_false false b h = (refl, h)
 
 pub stands_unary : (h : Bool) (op : Unary) (rest : List ℕ) → Ends (joins op) rest → Stands h (unary_sign op) kind.Punct rest
 unfolding byte.piece_of punctuators

@@ -36,6 +36,7 @@ use Rattle.species_readback.specs.Meant.{is_meant, expr_meant, is_local, is_arra
 use Rattle.species_readback.specs.Spelt.{is_literal}
 use Rattle.species_ast.specs.Signs.{unary_sign, binary_sign, binary_level}
 use Rattle.species_ast.specs.Grammar.Words.{Optional}
+use Rattle.species_readback.proofs.ListLemmas.{or_false}
 
 -- ---- tokens of lexemes one behind the other
 
@@ -110,10 +111,6 @@ within s false l e ps top le h = lowered s (level_of e) l e ps (le refl) h
 
 pub at_least_reads : (s : Scope) (l : ℕ) (e : Expr) (ps : List Printed) → l ≤ 12 → Reads s (level_of e) e ps → Reads s l e (at_least l (e, ps))
 at_least_reads s l e ps top h = within s (nat_lt (level_of e) l) l e ps top (ltb-false (level_of e) l) h
-
-or_false : (a b : Bool) → a || b ≡ false → (a ≡ false) × (b ≡ false)
-or_false true b h = cc
-or_false false b h = (refl, h)
 
 behind_unary_reads : (s : Scope) (op : Unary) (e : Expr) (ps : List Printed) → Reads s (level_of e) e ps → Reads s 11 e (behind_unary op (e, ps))
 behind_unary_reads s op e ps h =
@@ -384,5 +381,5 @@ reads_cases u iters s = record {
 }
 
 -- each expression whose names mean what they should
-pub reads_back : (u : Unit) (iters : List (List ℕ)) (s : Scope) (e : Expr) → is_meant u iters s e ≡ true → Reads s (level_of e) e (expr_printed u iters e)
-reads_back u iters s = expr_ind (ReadsBack u iters s) (reads_cases u iters s)
+pub expr_reads : (u : Unit) (iters : List (List ℕ)) (s : Scope) (e : Expr) → is_meant u iters s e ≡ true → Reads s (level_of e) e (expr_printed u iters e)
+expr_reads u iters s = expr_ind (ReadsBack u iters s) (reads_cases u iters s)

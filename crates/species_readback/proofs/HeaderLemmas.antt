@@ -1,5 +1,5 @@
 -- A header or a species text that is taken from a line can be written.
-use Rattle.std.proofs.Common.{◌≡◌, ◌∙◌, ap, sym, refl, subst, ℕ, zero, suc, ◌+◌, ◌-◌, ◌<◌, Bool, true, false, List, [], ◌∷◌, ◌++◌, length, take, drop, Option, Some, None, arith, length-take, nat_eq}
+use Rattle.std.proofs.Common.{◌≡◌, ◌∙◌, ap, sym, refl, subst, ℕ, suc, ◌+◌, ◌-◌, ◌<◌, Bool, true, false, List, [], ◌∷◌, ◌++◌, length, take, drop, Option, Some, None, arith, length-take, nat_eq}
 use Rattle.std.proofs.lemmas.Bool.{and_parts, and_from, eqb-true, lt-ltb, ltb-true}
 use Rattle.std.proofs.lemmas.Slice.Eq.{bytes_eq-Decides}
 use Rattle.std.proofs.Math.Seq.{take-length, drop-length}
@@ -20,18 +20,9 @@ use Rattle.species_readback.specs.Spelt.{is_no_line_feed, include_line, is_inclu
 use Rattle.species_readback.proofs.ScanLemmas.{prefix_cut}
 use Rattle.species_readback.proofs.EndLemmas.{EndsWell, ends_more, ends_behind, not_spliced, scan_some, scan_ends}
 use Rattle.species_readback.proofs.SpeciesLemmas.{given_text, takes_species_back}
+use Rattle.species_readback.proofs.ListLemmas.{all_take, all_drop}
 
 -- ---- bytes of a line
-
-pub all_take : (p : ℕ → Bool) (n : ℕ) (xs : List ℕ) → list_all p xs ≡ true → list_all p (take n xs) ≡ true
-all_take p zero xs h = refl
-all_take p (suc n) [] h = refl
-all_take p (suc n) (x ∷ xs) h = let k = and_parts (p x) (list_all p xs) h in and_from _ _ k.0 (all_take p n xs k.1)
-
-pub all_drop : (p : ℕ → Bool) (n : ℕ) (xs : List ℕ) → list_all p xs ≡ true → list_all p (drop n xs) ≡ true
-all_drop p zero xs h = h
-all_drop p (suc n) [] h = refl
-all_drop p (suc n) (x ∷ xs) h = all_drop p n xs (and_parts (p x) (list_all p xs) h).1
 
 -- ---- lines that are no `#include`
 

@@ -23,6 +23,7 @@ use Rattle.species_ast.proofs.Folds.{fold_stmt-Assign, fold_stmt-AddTo, fold_stm
 use Rattle.species_readback.proofs.LawfulLemmas.{MatchesAt, Matches, Sound, AllSound, sound-Binary, taken_sound, is_kept, is_assignable}
 use Rattle.species_readback.specs.Meant.{is_meant, is_array, is_local, Meant, list_next, list_locals, list_holds, stmt_meant, loop_meant, meant}
 use Rattle.species_readback.specs.Spelt.{is_spelt, stmt_spelt, loop_spelt, spelt}
+use Rattle.species_readback.proofs.ListLemmas.{all_append, map_append}
 
 -- ---- places
 
@@ -155,14 +156,6 @@ holds_append (m ∷ a) b it t x y = let k = and_parts (m.holds it t) (list_holds
 next_append : (a b : List Meant) (t : Scope) → list_next (a ++ b) t ≡ list_next b (list_next a t)
 next_append [] b t = refl
 next_append (m ∷ a) b t = next_append a b (m.next t)
-
-map_append : {X Y : Type 0} (f : X → Y) (a b : List X) → map f (a ++ b) ≡ map f a ++ map f b
-map_append f [] b = refl
-map_append f (x ∷ a) b = ap (λ z. f x ∷ z) (map_append f a b)
-
-all_append : {X : Type 0} (p : X → Bool) (a b : List X) → list_all p a ≡ true → list_all p b ≡ true → list_all p (a ++ b) ≡ true
-all_append p [] b x y = y
-all_append p (c ∷ a) b x y = let k = and_parts (p c) (list_all p a) x in and_from (p c) (list_all p (a ++ b)) k.0 (all_append p a b k.1 y)
 
 pub kept_then : (c : Place) (xs ys : List Stmt) (nx ny : Scope) (ks ls : List LocalInfo) (a : Kept c xs nx ks) → Kept (next_place c xs nx ks a) ys ny ls → Kept c (xs ++ ys) ny (ks ++ ls)
 kept_then c xs ys nx ny ks ls a b =

@@ -27,7 +27,7 @@ use Rattle.species_ast.proofs.LimitLaws.{not_refused-keeps}
 use Rattle.species_lawful.proofs.WalkLaws.{same_names}
 use Rattle.species_readback.specs.Spelt.{is_int_number, is_int_step}
 use Rattle.species_readback.specs.ReadBack.{LawfulReadsBack}
-use Rattle.species_readback.proofs.LawfulLemmas.{is_kept_as, is_fine, all_split}
+use Rattle.species_readback.proofs.LawfulLemmas.{is_kept_as, is_fine}
 use Rattle.species_readback.proofs.KeptLemmas.{all_same}
 use Rattle.species_readback.proofs.LawfulStatementLemmas.{is_stepped}
 use Rattle.species_readback.proofs.LawfulUnitLemmas.{NothingRefused, program_by, inner_of, sizes_fit, lawful_unit}
@@ -39,6 +39,7 @@ use Rattle.species_ast.specs.Scope.Nests.{is_bad_mark}
 use Rattle.species_readback.specs.Spelt.{IsSpelt}
 use Rattle.species_readback.specs.Meant.{IsMeant}
 use Rattle.species_readback.proofs.NumberLemmas.{int_within}
+use Rattle.species_readback.proofs.ListLemmas.{all_split}
 
 -- ---- where nothing is refused
 

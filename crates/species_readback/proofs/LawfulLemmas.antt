@@ -30,6 +30,7 @@ use Rattle.species_ast.specs.declared.tree.Mark.TheVariants as mark
 use Rattle.species_readback.proofs.ExpressionLemmas.{value_by}
 use Rattle.species_readback.specs.Meant.{is_meant, expr_meant, is_array, is_local, is_iterator}
 use Rattle.species_readback.specs.Spelt.{is_species_text, is_header, mark_spelt, is_literal, is_spelt, expr_spelt}
+use Rattle.species_readback.proofs.ListLemmas.{all_split}
 
 -- ---- what is known of tokens and of names
 
@@ -130,13 +131,6 @@ taken_sound u it s t w (Some (Meaning.Iterator l)) es h k n a =
 taken_sound u it s t w (Some Meaning.Function) es h k n a = cc
 
 -- ---- derivations
-
-pub all_split : {X : Type 0} (p : X → Bool) (a b : List X) → list_all p (a ++ b) ≡ true → (list_all p a ≡ true) × (list_all p b ≡ true)
-all_split p [] b h = (refl, h)
-all_split p (x ∷ a) b h =
-    let k = and_parts (p x) (list_all p (a ++ b)) h in
-    let l = all_split p a b k.1 in
-    (and_from (p x) (list_all p a) k.0 l.0, l.1)
 
 -- where the program stands, and where its canonical text
 pub record Here : Type 0 where

@@ -44,7 +44,7 @@ use Rattle.species_ast.specs.Grammar.Declarations.{InitDeclarator, MoreDeclarato
 use Rattle.species_ast.specs.Grammar.Statements.{Change, Header, ForHeader, SpeciesLine, ParallelLine, Statement, BlockItems, target_place}
 use Rattle.species_ast.specs.Scope.Expressions.{ExprReading, reading, target_in}
 use Rattle.species_ast.proofs.ScopeLaws.{target_in-target, stmt_fragment-Declare, stmt_fragment-Block, stmt_fragment-Empty, stmt_fragment-If, stmt_fragment-IfElse, stmt_fragment-Change, stmt_fragment-Atomic, stmt_fragment-Loop, parts_in}
-use Rattle.species_readback.proofs.LawfulLemmas.{is_good, is_fine, Here, all_split, expr_sound, subs_sound}
+use Rattle.species_readback.proofs.LawfulLemmas.{is_good, is_fine, Here, expr_sound, subs_sound}
 use Rattle.species_readback.proofs.KeptLemmas.{Target, next_place, kept_nothing, operated_kept, increased_kept, combined_kept, kept_then, body_of, behind_place, block_kept, if_kept}
 use Rattle.species_readback.proofs.KeptLoopLemmas.{loop_place, loop_kept, declared_place, InitSound, declare_kept, dropped_kept}
 use Rattle.species_readback.specs.Meant.{expr_meant, declared}
@@ -52,6 +52,7 @@ use Rattle.species_readback.specs.Spelt.{expr_spelt, is_int_step, line_spelt, ma
 use Rattle.species_ast.specs.Marks.{test_step, test_layer}
 use Rattle.species_ast.specs.declared.tree.Stmt.{fold-Stmt}
 use Rattle.species_readback.proofs.KeptLemmas.{all_same}
+use Rattle.species_readback.proofs.ListLemmas.{all_split}
 
 -- the unit's locals from this number on are these
 abbrev pub Named : Unit → ℕ → List LocalInfo → Type 0

@@ -1,5 +1,5 @@
 -- The tokens that a text is cut into can be written again: names are names, numbers are those of literals, headers and pragmas are those of lines.
-use Rattle.std.proofs.Common.{◌≡◌, ◌∙◌, ap, sym, refl, subst, ℕ, zero, suc, ◌+◌, Bool, true, false, List, [], ◌∷◌, ◌++◌, length, take, drop, Option, Some, None, Result, Ok, Err, arith, nat_eq, pos, negsuc}
+use Rattle.std.proofs.Common.{◌≡◌, ◌∙◌, ap, sym, refl, subst, ℕ, zero, suc, ◌+◌, Bool, true, false, List, [], ◌∷◌, length, take, drop, Option, Some, None, Result, Ok, Err, arith, nat_eq, pos, negsuc}
 use Rattle.std.proofs.lemmas.Bool.{and_parts, and_from, le-leb, leb-true, eqb-true}
 use Rattle.std.specs.Prelude.{◌&&◌, not, nat_le, if◌then◌else◌, codes, option_and_then, option_map, filter}
 use Rattle.std.specs.List.{list_all}
@@ -39,6 +39,7 @@ use Rattle.species_ast.specs.Text.Pragmas.{depth_behind, parallel_with}
 use Rattle.species_ast.specs.Text.Directives.{is_macro_name, is_end_of_kernel}
 use Rattle.species_readback.proofs.EndLemmas.{run_taken}
 use Rattle.species_readback.proofs.HeaderLemmas.{header_given, species_given}
+use Rattle.species_readback.proofs.ListLemmas.{all_append}
 
 -- ---- literals
 
@@ -354,12 +355,8 @@ good_scope ds (byte.Lexeme n t _) g h = h
 good_scope ds (byte.Define n name v) g h = good_once (look_up ds name) n name v h
 good_scope ds (byte.Refused r) g h = h
 
-all_join : {X : Type 0} (p : X → Bool) (a b : List X) → list_all p a ≡ true → list_all p b ≡ true → list_all p (a ++ b) ≡ true
-all_join p [] b x y = y
-all_join p (c ∷ a) b x y = let k = and_parts (p c) (list_all p a) x in and_from (p c) (list_all p (a ++ b)) k.0 (all_join p a b k.1 y)
-
 good_behind : (t : List ℕ) (k : TokenKind) (ds : List Definition) → GoodAs t k → GoodDefinitions ds → GoodDefinitions (defined_by t k ds)
-good_behind t (kind.Define v) ds h g = all_join (λ d. is_literal d.literal) ds (record { name = t; literal = v } ∷ []) g (and_from _ true h refl)
+good_behind t (kind.Define v) ds h g = all_append (λ d. is_literal d.literal) ds (record { name = t; literal = v } ∷ []) g (and_from _ true h refl)
 good_behind t _ ds h g = g
 
 cut_good : (place : ℕ) (h : Bool) (ds : List Definition) (bytes : List ℕ) (s : TokenStream) → Cut place h ds bytes s → GoodDefinitions ds → list_all is_good s.tokens ≡ true

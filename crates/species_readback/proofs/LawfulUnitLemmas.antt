@@ -21,13 +21,14 @@ use Rattle.species_ast.specs.Scope.Meanings.{Meaning, Scope, scope_with, count_b
 use Rattle.species_ast.specs.Scope.Statements as walk
 use Rattle.species_ast.specs.Scope.Programs.{Globals, ArrayParts, Program, header_of, extent, size_parts, parts_of, size_in, globals_from, first_scope, arrays_of, program_with}
 use Rattle.species_print.specs.Expressions.{array_name}
-use Rattle.species_readback.proofs.LawfulLemmas.{Matches, is_good, is_fine, all_split}
+use Rattle.species_readback.proofs.LawfulLemmas.{Matches, is_good, is_fine}
 use Rattle.species_readback.proofs.ScopeLemmas.{matches_with}
 use Rattle.species_readback.proofs.KeptLemmas.{Place}
 use Rattle.species_readback.proofs.LawfulStatementLemmas.{Named, is_stepped, items_kept}
 use Rattle.species_readback.specs.Spelt.{is_header, IsSpelt, array_spelt}
 use Rattle.species_readback.specs.Meant.{spell, arrays_scope, body_scope, has_sizes, is_some_size, IsMeant}
 use Rattle.species_readback.specs.Spelt.{is_int_number}
+use Rattle.species_readback.proofs.ListLemmas.{all_append, all_split}
 
 -- ---- by number
 
@@ -93,10 +94,6 @@ more_known : (k : Kind) (zs : List RawArray) (ts : List Token) → MoreArrays zs
 more_known k zs ts MoreArrays.none g = refl
 more_known k zs ts (MoreArrays.more p a rest xs us d e) g = let b = all_split is_good xs us g in and_from _ _ (array_known k a xs d b.0) (more_known k rest us e b.1)
 
-all_join : {X : Type 0} (p : X → Bool) (a b : List X) → list_all p a ≡ true → list_all p b ≡ true → list_all p (a ++ b) ≡ true
-all_join p [] b x y = y
-all_join p (c ∷ a) b x y = let k = and_parts (p c) (list_all p a) x in and_from (p c) (list_all p (a ++ b)) k.0 (all_join p a b k.1 y)
-
 global_known : (g : RawItem) (ts : List Token) → GlobalDeclaration g ts → list_all is_good ts ≡ true
     → (filter_map header_of (g ∷ []) ≡ []) × (list_all (λ (a : ArrayParts). is_name a.name.text && is_sized a.sizes) (arrays_of g) ≡ true)
 global_known g ts (GlobalDeclaration.global p q k a rest ks xs us t d e) w =
@@ -120,7 +117,7 @@ unit_known raw ts (TranslationUnit.global b g u bs gs us o d e) w =
     let f = global_known g gs d c.0 in
     record {
       headers = ap (λ z. list_all is_header (cons_option z (filter_map header_of u.items))) (no_header g gs d) ∙ k.headers;
-      arrays = all_join _ (arrays_of g) (flat_map arrays_of u.items) f.1 k.arrays;
+      arrays = all_append _ (arrays_of g) (flat_map arrays_of u.items) f.1 k.arrays;
       function = k.function;
       ts = k.ts;
       body = k.body;

@@ -1,3 +1,4 @@
+mod ListLemmas
 mod ScanLemmas
 mod CutLemmas
 mod LineLemmas

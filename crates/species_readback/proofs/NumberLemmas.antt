@@ -19,6 +19,7 @@ use Rattle.species_ast.specs.Text.Numbers.{literal_of, literal_in, is_hex, is_de
 use Rattle.species_readback.specs.Spelt.{is_int_number}
 use Rattle.species_readback.proofs.TokenLemmas.{Stands}
 use Rattle.species_readback.proofs.WordLemmas.{Ends, continues, digit_within, run_word, stands_number}
+use Rattle.species_readback.proofs.ListLemmas.{or_true_right, all_append}
 
 -- ---- decimal numbers
 
@@ -39,10 +40,6 @@ decimal_plain n lt = (digits_decimal own n lt, decimal_nonempty n lt, go (cases_
     go : (n ≡ 0) ⊎ (n ≡ 0 → ⊥) → (get_or (decimal n) 0 0 ≡ 48 → ⊥) ⊎ (length (decimal n) ≡ 1)
     go (inl z) = inr (ap (λ k. length (decimal k)) z ∙ ap length (decimal_digit 0 (omega arith)))
     go (inr s) = inl (λ e. let some : 0 < n = omega (arith, s) in let f = first_decimal n some lt in omega (arith, f, e))
-
-or_true_right : (a : Bool) → a || true ≡ true
-or_true_right true = refl
-or_true_right false = refl
 
 plain_decimal : (ds : List ℕ) → Plain ds → is_decimal ds ≡ true
 plain_decimal [] p = let x : ⊥ = omega (arith, p.1) in absurd x
@@ -85,10 +82,6 @@ digits_run [] h = refl
 digits_run (a ∷ ds) h =
     let k = and_parts (is_digit a) (list_all is_digit ds) h in
     and_from (is_run a) (list_all is_run ds) (ap (λ c. c || (nat_eq a 117 || nat_eq a 108)) k.0) (digits_run ds k.1)
-
-pub all_append : (p : ℕ → Bool) (a b : List ℕ) → list_all p a ≡ true → list_all p b ≡ true → list_all p (a ++ b) ≡ true
-all_append p [] b x y = y
-all_append p (c ∷ a) b x y = let k = and_parts (p c) (list_all p a) x in and_from (p c) (list_all p (a ++ b)) k.0 (all_append p a b k.1 y)
 
 pub run_words : (ds : List ℕ) → list_all is_run ds ≡ true → list_all is_word ds ≡ true
 run_words [] h = refl

@@ -22,11 +22,12 @@ use Rattle.species_ast.specs.Text.Directives.{Read, parts_form, openmp_form, pra
 use Rattle.species_print.specs.Statements.{schedule_text, parallel_text}
 use Rattle.species_readback.specs.Spelt.{is_int_number, is_no_line_feed, schedule_spelt, mark_spelt}
 use Rattle.species_readback.proofs.WordLemmas.{Ends, continues, digit_within, no_blank, digit_no_letter, run_number}
-use Rattle.species_readback.proofs.NumberLemmas.{Plain, decimal_plain, literal_is, value_is, no_suffix, int_within, small_number, run_words, digits_run, all_append}
+use Rattle.species_readback.proofs.NumberLemmas.{Plain, decimal_plain, literal_is, value_is, no_suffix, int_within, small_number, run_words, digits_run}
 use Rattle.species_readback.proofs.DirectiveLemmas.{IsDirective}
 use Rattle.species_readback.proofs.ScanLemmas.{Scan, part_at}
 use Rattle.species_readback.proofs.SpeciesLemmas.{whole_line}
 use Rattle.species_readback.proofs.EndLemmas.{not_spliced_at}
+use Rattle.species_readback.proofs.ListLemmas.{all_append}
 
 -- ---- numbers among the parts of a line
 

@@ -1,7 +1,7 @@
 -- What is printed of statements and units is lines, and no token runs into what stands behind it.
 use Rattle.std.proofs.Common.{◌≡◌, ◌∙◌, ap, sym, refl, subst, ℕ, zero, suc, Bool, true, false, List, [], ◌∷◌, ◌++◌, map, Option, Some, None, pos, negsuc, ℤ}
 use Rattle.std.proofs.lemmas.Bool.{and_parts}
-use Rattle.std.specs.Prelude.{◌||◌, ◌&&◌, codes}
+use Rattle.std.specs.Prelude.{◌&&◌, codes}
 use Rattle.std.specs.List.{list_all, flat_map}
 use Rattle.species_ast.specs.Line.{Line}
 use Rattle.species_ast.specs.Names.{is_name}
@@ -29,7 +29,7 @@ use Rattle.species_print.specs.Expressions.{expr_printed, array_name, local_name
 use Rattle.species_print.specs.Statements.{Layout, all_of, deeper, indentation, element, assignment, local_kind, declaration, atomic_line, species_line, parallel_line, parallel_text, if_head, for_head, step_printed, else_part, close, stmt_step, loop_layer, stmt_layout}
 use Rattle.species_readback.proofs.TokenLemmas.{Stands, Apart, head_after, apart_append}
 use Rattle.species_readback.proofs.WordLemmas.{Ends, continues, stands_word, stands_name, stands_keyword}
-use Rattle.species_readback.proofs.NumberLemmas.{all_append, stands_int}
+use Rattle.species_readback.proofs.NumberLemmas.{stands_int}
 use Rattle.species_readback.proofs.MarkLemmas.{atomic_directive, line_directive, header_directive}
 use Rattle.species_readback.proofs.ApartLemmas.{Spaced, kind_apart, spaced_expr, spaced_subs, spaced_name, ends_subs, stands_open, stands_close, stands_left, stands_right}
 use Rattle.species_print.specs.Units.{include_line, size, array_line, function_line, front, unit_printed}
@@ -39,6 +39,7 @@ use Rattle.species_readback.specs.Spelt.{mark_spelt, is_header, is_spelt, is_int
 use Rattle.species_ast.specs.Signs.{test_sign}
 use Rattle.species_readback.proofs.ParallelLemmas.{parallel_directive}
 use Rattle.species_readback.specs.Spelt.{is_int_number}
+use Rattle.species_readback.proofs.ListLemmas.{or_true_right, all_append}
 
 -- ---- lines
 
@@ -60,10 +61,6 @@ lines_append a b x y = record {
   apart = λ rest. apart_append true a b rest (x.apart (text_of b ++ rest)) (subst (λ h. Apart h b rest) (sym x.is_head) (y.apart rest));
   is_head = head_append true a b ∙ ap (λ h. head_after h b) x.is_head ∙ y.is_head;
 }
-
-or_true_right : (a : Bool) → a || true ≡ true
-or_true_right true = refl
-or_true_right false = refl
 
 -- what may stand on a line, before its end
 abbrev pub Ready : List Printed → Type 0

@@ -30,11 +30,12 @@ use Rattle.species_ast.proofs.Induction.{Each}
 use Rattle.species_print.specs.Printed.{spaced, punctuator, name, line}
 use Rattle.species_print.specs.Expressions.{expr_printed, array_name, local_name, subscript, level_of}
 use Rattle.species_print.specs.Statements.{Layout, all_of, element, assignment, atomic_line, close, stmt_step, loop_layer, stmt_layout}
-use Rattle.species_readback.proofs.ExpressionLemmas.{Quiet, quiet_append, Derivation, Reads, reads_back, lowered, SubsDerivation, subs_reads}
+use Rattle.species_readback.proofs.ExpressionLemmas.{Quiet, quiet_append, Derivation, Reads, expr_reads, lowered, SubsDerivation, subs_reads}
 use Rattle.species_readback.proofs.GivesLemmas.{Gives, token, gives_map, gives_nil, gives_lexeme, gives_blank, gives_append, gives_line}
 use Rattle.species_readback.specs.Unplaced.{unplaced, unplaced_at, unplaced_loop}
 use Rattle.species_readback.specs.Meant.{is_meant, is_array, is_local, Meant, list_next, list_locals, list_holds, element_meant, stmt_meant, loop_meant, meant}
 use Rattle.species_ast.specs.Signs.{assignment_sign}
+use Rattle.species_readback.proofs.ListLemmas.{map_append}
 
 -- ---- expressions and targets
 
@@ -42,7 +43,7 @@ abbrev pub Expr0 : Scope → Expr → List Token → Type 0
 Expr0 s e ts = Derivation s 0 e ts
 
 pub expr_gives : (u : Unit) (it : List (List ℕ)) (s : Scope) (e : Expr) → is_meant u it s e ≡ true → Gives (expr_printed u it e) (Expr0 s e)
-expr_gives u it s e h = record { at = lowered s (level_of e) 0 e (expr_printed u it e) (omega arith) (reads_back u it s e h) }
+expr_gives u it s e h = record { at = lowered s (level_of e) 0 e (expr_printed u it e) (omega arith) (expr_reads u it s e h) }
 
 pub record TargetDerivation (s : Scope) (text : List ℕ) (es : List Expr) (ts : List Token) : Type 0 where
   pub raw : RawTarget
@@ -98,10 +99,6 @@ abbrev pub StmtClaim : Unit → Stmt → Type 0
 StmtClaim u x = (it : List (List ℕ)) (ind : List ℕ) (s : Scope) → (meant u x).holds it s ≡ true → Gives (stmt_layout true u x it ind) (StmtDerivation s (unplaced x) (meant u x))
 
 -- ---- lists
-
-map_append : {X Y : Type 0} (f : X → Y) (a b : List X) → map f (a ++ b) ≡ map f a ++ map f b
-map_append f [] b = refl
-map_append f (x ∷ a) b = ap (λ z. f x ∷ z) (map_append f a b)
 
 -- one fragment behind another
 then_becomes : (p : walk.Walk) (ps : List walk.Walk) (s t : Scope) (x : Stmt) (xs : List Stmt) (nx : Scope) (k ls : List LocalInfo)

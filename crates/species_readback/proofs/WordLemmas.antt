@@ -13,6 +13,7 @@ use Rattle.species_ast.specs.Text.Numbers.{run_more, goes_on, is_exponent, is_si
 use Rattle.species_ast.specs.Text.Pieces as byte
 use Rattle.species_ast.specs.Text.Stream.{in_scope}
 use Rattle.species_readback.proofs.TokenLemmas.{front_piece, Stands}
+use Rattle.species_readback.proofs.ListLemmas.{or_false}
 
 -- ---- what may stand behind
 
@@ -24,10 +25,6 @@ Ends p (b ∷ bs) = p b ≡ false
 -- a byte that would make a word or a number longer
 abbrev pub continues : ℕ → Bool
 continues b = is_word b || (nat_eq b 46 || is_sign b)
-
-or_false : (a b : Bool) → a || b ≡ false → (a ≡ false) × (b ≡ false)
-or_false true b h = cc
-or_false false b h = (refl, h)
 
 or_true : (a b : Bool) → b ≡ true → a || b ≡ true
 or_true true b h = refl
