@@ -33,3 +33,4 @@ mod StrippedLemmas
 mod AlikeLemmas
 pub mod MarkedLaws
 mod ReadBackExamples
+pub mod TextLaws

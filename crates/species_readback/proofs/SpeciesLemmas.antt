@@ -185,12 +185,12 @@ end_after at t w v (Scan.comment _ b a bytes n (p ∷ ps) g h o s) = omega (arit
 end_after at t w v (Scan.part _ b bytes n ps g f h len s) = omega (arith, end_part at b bytes n ps len, end_from (at + suc n) (drop n bytes) ps s)
 
 -- what stands alone behind `#pragma species `: the same parts, from the sixteenth byte on
-record Alone (t : List ℕ) (p : Part) (ps : List Part) : Type 0 where
-  scan : Scan p.at t (p ∷ ps)
-  moved : Moved p.at 16 t (p ∷ ps)
-  size : ℕ
-  ends : parts_end p.at (p ∷ ps) ≡ p.at + size
-  cut : take size t ≡ t
+pub record Alone (t : List ℕ) (p : Part) (ps : List Part) : Type 0 where
+  pub scan : Scan p.at t (p ∷ ps)
+  pub moved : Moved p.at 16 t (p ∷ ps)
+  pub size : ℕ
+  pub ends : parts_end p.at (p ∷ ps) ≡ p.at + size
+  pub cut : take size t ≡ t
 
 -- the content from the first part of the text on, cut behind its last part
 alone_from : (h : ℕ) (bytes t : List ℕ) (p : Part) (ps : List Part) (g : ℕ) → p.at ≡ 1 + g
@@ -315,7 +315,7 @@ whole_line bytes ps goes s =
     ∙ ap (λ z. parts_form (35 ∷ bytes) (parts_of 1 z)) (take-length bytes)
     ∙ ap (parts_form (35 ∷ bytes)) (parts_are 1 bytes ps s (length bytes) (omega arith))
 
-alone_form : (t : List ℕ) (p : Part) (ps : List Part) (a : Alone t p ps) → offset_of (codes "\\") (p ∷ ps) ≡ None → is_end_of_kernel p ps ≡ false
+pub alone_form : (t : List ℕ) (p : Part) (ps : List Part) (a : Alone t p ps) → offset_of (codes "\\") (p ∷ ps) ≡ None → is_end_of_kernel p ps ≡ false
     → IsSpecies (form_of (alone_line t)) t
 alone_form t p ps a plain goes =
     whole_line (codes "pragma species " ++ t) (alone_parts a.moved.parts) refl (alone_scan t a.moved.parts a.moved.scan)

@@ -3,3 +3,4 @@ pub mod Spelt
 pub mod Meant
 pub mod Unplaced
 pub mod ReadBack
+pub mod Texts

@@ -2,6 +2,7 @@
 #![tactic(auto)]
 
 ghost use Rattle.species_readback.specs.Law.{TakesSpeciesBack};
+ghost use Rattle.species_readback.specs.Texts.{TakesTexts};
 ghost use Rattle.species_readback.specs.ReadBack.{ReadsBack, LawfulReadsBack, MarkedReadsBack};
 
 /// A species text that is taken from a line is taken again, byte for byte, from the line that is
@@ -25,4 +26,10 @@ pub fn law_lawful_read_back()
 /// additions are, as long as the lines and marks can be written.
 pub fn law_marked_read_back()
     ensures { MarkedReadsBack }
+{}
+
+/// A text without comments, backslashes and line feeds, with no blank at its ends, that does not begin
+/// with the word `endkernel`, is a species text that can be written.
+pub fn law_line_text()
+    ensures { TakesTexts }
 {}
