@@ -20,7 +20,7 @@ use Rattle.species_ast.proofs.Induction.{Each, each_all, ExprCases, expr_ind, St
 use Rattle.species_print.specs.Expressions.{array_name, local_name}
 use Rattle.species_print.specs.Statements.{local_kind}
 use Rattle.species_readback.specs.Spelt.{is_spelt, expr_spelt, is_int_step, line_spelt, mark_spelt, init_spelt, stmt_spelt, loop_spelt, spelt}
-use Rattle.species_readback.specs.Meant.{is_array, is_local, is_meant, expr_meant, Meant, list_next, list_locals, list_holds, spell, declared, init_meant, inner_scope, stmt_meant, loop_meant, meant}
+use Rattle.species_readback.specs.Meant.{means_array, means_local, is_meant, expr_meant, Meant, list_next, list_locals, list_holds, spell, declared, init_meant, inner_scope, stmt_meant, loop_meant, meant}
 
 pub record SameNames (u w : Unit) : Type 0 where
   pub arrays : u.arrays ≡ w.arrays
@@ -79,8 +79,8 @@ spelt_step u w s it (Expr-F.Cast k a) = refl
 meant_step : (u w : Unit) → SameNames u w → (it : List (List ℕ)) (t : Scope) (x : Expr-F Bool) → expr_meant u it t x ≡ expr_meant w it t x
 meant_step u w s it t (Expr-F.Literal v) = refl
 meant_step u w s it t (Expr-F.Iter level) = refl
-meant_step u w s it t (Expr-F.Local n) = ap (λ z. is_local t n (meaning_in t.names z)) (local_same u w s n)
-meant_step u w s it t (Expr-F.Elem n bs) = ap (λ z. is_array n (meaning_in t.names z) && all_true bs) (array_same u w s n)
+meant_step u w s it t (Expr-F.Local n) = ap (λ z. means_local t n (meaning_in t.names z)) (local_same u w s n)
+meant_step u w s it t (Expr-F.Elem n bs) = ap (λ z. means_array n (meaning_in t.names z) && all_true bs) (array_same u w s n)
 meant_step u w s it t (Expr-F.Unary op a) = refl
 meant_step u w s it t (Expr-F.Binary op a b) = refl
 meant_step u w s it t (Expr-F.And a b) = refl
@@ -203,8 +203,8 @@ init_alike u w s it t None = refl
 init_alike u w s it t (Some e) = meant_same u w s it t e
 
 element_alike : (u w : Unit) → SameNames u w → (a : ℕ) (es : List Expr) (e : Expr) (it : List (List ℕ)) (t : Scope)
-    → (is_array a (meaning_in t.names (array_name u a)) && (list_all (is_meant u it t) es && is_meant u it t e)) ≡ (is_array a (meaning_in t.names (array_name w a)) && (list_all (is_meant w it t) es && is_meant w it t e))
-element_alike u w s a es e it t = (λ i. is_array a (meaning_in t.names (array_same u w s a i)) && (all_meant u w s it t es i && meant_same u w s it t e i))
+    → (means_array a (meaning_in t.names (array_name u a)) && (list_all (is_meant u it t) es && is_meant u it t e)) ≡ (means_array a (meaning_in t.names (array_name w a)) && (list_all (is_meant w it t) es && is_meant w it t e))
+element_alike u w s a es e it t = (λ i. means_array a (meaning_in t.names (array_same u w s a i)) && (all_meant u w s it t es i && meant_same u w s it t e i))
 
 loop_alike : (u w : Unit) → SameNames u w → (l : Loop-F Stmt Loop) → Each (MeantAlike u w) l.body → MeantAlike u w (stmt.For (roll-Loop l))
 loop_alike u w s l h =
@@ -244,7 +244,7 @@ meant_cases u w s = record {
   set_local = λ place n e.
       by_meant u w (stmt.SetLocal place n e) (stmt_meant u (Stmt-F.SetLocal place n e)) (stmt_meant w (Stmt-F.SetLocal place n e))
       (fold_stmt-SetLocal (stmt_meant u) (loop_meant u) place n e) (fold_stmt-SetLocal (stmt_meant w) (loop_meant w) place n e)
-      (record { next = λ t. refl; locals = refl; holds = λ it t. (λ i. is_local t n (meaning_in t.names (local_same u w s n i)) && meant_same u w s it t e i) });
+      (record { next = λ t. refl; locals = refl; holds = λ it t. (λ i. means_local t n (meaning_in t.names (local_same u w s n i)) && meant_same u w s it t e i) });
   choice = λ place e body otherwise h j.
       let a = meant_list u w body h in
       let b = meant_list u w otherwise j in

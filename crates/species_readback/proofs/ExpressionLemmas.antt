@@ -32,7 +32,7 @@ use Rattle.species_ast.proofs.Induction.{Each, ExprCases, expr_ind}
 use Rattle.species_print.specs.Printed.{Printed, Lexeme, Blank, spelling, text_of, tokens_from, spaced, punctuator, name}
 use Rattle.species_print.specs.Expressions.{expr_printed, kind_words, is_minus, at_least, behind_unary, bracketed, subscript, level_at, level_of, is_negation, literal_printed, array_name, local_name, iter_name}
 use Rattle.species_readback.proofs.ApartLemmas.{printed-Literal, printed-Iter, printed-Local, printed-Elem, printed-Unary, printed-Binary, printed-And, printed-Or, printed-Cond, printed-Cast}
-use Rattle.species_readback.specs.Meant.{is_meant, expr_meant, is_local, is_array, is_iterator}
+use Rattle.species_readback.specs.Meant.{is_meant, expr_meant, means_local, means_array, means_iterator}
 use Rattle.species_readback.specs.Spelt.{is_literal}
 use Rattle.species_ast.specs.Signs.{unary_sign, binary_sign, binary_level}
 use Rattle.species_ast.specs.Grammar.Words.{Optional}
@@ -277,21 +277,21 @@ target_reads s text e es ps means h place =
 abbrev pub value_by : Scope → Option Meaning → List Expr → Expr
 value_by s means subs = value_of s (record { name = record { text = []; place = 0 }; means = means; subs = subs; names = [] })
 
-value_array : (s : Scope) (a : ℕ) (m : Option Meaning) (subs : List Expr) → is_array a m ≡ true → value_by s m subs ≡ expr.Elem a subs
+value_array : (s : Scope) (a : ℕ) (m : Option Meaning) (subs : List Expr) → means_array a m ≡ true → value_by s m subs ≡ expr.Elem a subs
 value_array s a None subs h = cc
 value_array s a (Some (Meaning.Array b n)) subs h = ap (λ k. expr.Elem k subs) (eqb-true b a h)
 value_array s a (Some (Meaning.Variable x)) subs h = cc
 value_array s a (Some (Meaning.Iterator k)) subs h = cc
 value_array s a (Some Meaning.Function) subs h = cc
 
-value_local : (s : Scope) (n : ℕ) (m : Option Meaning) (subs : List Expr) → is_local s n m ≡ true → value_by s m subs ≡ expr.Local n
+value_local : (s : Scope) (n : ℕ) (m : Option Meaning) (subs : List Expr) → means_local s n m ≡ true → value_by s m subs ≡ expr.Local n
 value_local s n None subs h = cc
 value_local s n (Some (Meaning.Array b k)) subs h = cc
 value_local s n (Some (Meaning.Variable x)) subs h = ap expr.Local (eqb-true (local_number s x.serial) n h)
 value_local s n (Some (Meaning.Iterator k)) subs h = cc
 value_local s n (Some Meaning.Function) subs h = cc
 
-value_iterator : (s : Scope) (l : ℕ) (m : Option Meaning) (subs : List Expr) → is_iterator l m ≡ true → value_by s m subs ≡ expr.Iter l
+value_iterator : (s : Scope) (l : ℕ) (m : Option Meaning) (subs : List Expr) → means_iterator l m ≡ true → value_by s m subs ≡ expr.Iter l
 value_iterator s l None subs h = cc
 value_iterator s l (Some (Meaning.Array b n)) subs h = cc
 value_iterator s l (Some (Meaning.Variable x)) subs h = cc
@@ -352,7 +352,7 @@ reads_cases u iters s = record {
   iter = λ n w. stated u iters s 12 _ _ (printed-Iter u iters n) (ap level_at (expr.outs-Iter n)) (name_reads s (iter_name iters n) (expr.Iter n) (value_iterator s n _ [] (sym (fold_expr-Iter (expr_meant u iters s) n) ∙ w)));
   local = λ n w. stated u iters s 12 _ _ (printed-Local u iters n) (ap level_at (expr.outs-Local n)) (name_reads s (local_name u n) (expr.Local n) (value_local s n _ [] (sym (fold_expr-Local (expr_meant u iters s) n) ∙ w)));
   elem = λ n subs k w.
-      let v = and_parts (is_array n (meaning_in s.names (array_name u n))) (all_true (map (is_meant u iters s) subs)) (sym (fold_expr-Elem (expr_meant u iters s) n subs) ∙ w) in
+      let v = and_parts (means_array n (meaning_in s.names (array_name u n))) (all_true (map (is_meant u iters s) subs)) (sym (fold_expr-Elem (expr_meant u iters s) n subs) ∙ w) in
       stated u iters s 12 _ _ (printed-Elem u iters n subs) (ap level_at (expr.outs-Elem n subs))
       (target_reads s (array_name u n) (expr.Elem n subs) subs (flat_map subscript (map (expr_printed u iters) subs))
       (λ m raws t b. ap (λ x. value_by s (meaning_in s.names x) (exprs_of (readings raws s))) t ∙ ap (value_by s (meaning_in s.names (array_name u n))) b ∙ value_array s n _ subs v.0)

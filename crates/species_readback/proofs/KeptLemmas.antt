@@ -21,7 +21,7 @@ use Rattle.species_ast.specs.Scope.Meanings.{Meaning, Scope, meaning_in, local_n
 use Rattle.species_ast.specs.Scope.Statements as walk
 use Rattle.species_ast.proofs.Folds.{fold_stmt-Assign, fold_stmt-AddTo, fold_stmt-SetLocal, fold_stmt-If, fold_stmt-Block}
 use Rattle.species_readback.proofs.LawfulLemmas.{MatchesAt, Matches, Sound, AllSound, sound-Binary, taken_sound, is_kept, is_assignable}
-use Rattle.species_readback.specs.Meant.{is_meant, is_array, is_local, Meant, list_next, list_locals, list_holds, stmt_meant, loop_meant, meant}
+use Rattle.species_readback.specs.Meant.{is_meant, means_array, means_local, Meant, list_next, list_locals, list_holds, stmt_meant, loop_meant, meant}
 use Rattle.species_readback.specs.Spelt.{is_spelt, stmt_spelt, loop_spelt, spelt}
 use Rattle.species_readback.proofs.ListLemmas.{all_append, map_append}
 
@@ -100,12 +100,12 @@ assigned_kept : (c : Place) (p : ℕ) (n : Spelling) (m : Option Meaning) (es : 
 assigned_kept c p n None es names v g k h = cc
 assigned_kept c p n (Some (Meaning.Array b d)) es names v g k h =
     kept_simple c (stmt.Assign p b es v) _ _ (fold_stmt-Assign (stmt_meant c.u) (loop_meant c.u) p b es v) (fold_stmt-Assign (stmt_spelt c.u) (loop_spelt c.u) p b es v)
-    (and_from _ _ (ap (λ z. is_array b (meaning_in c.t.names z)) g.0.0 ∙ g.0.1) (and_from _ _ (sym (all_same (is_meant c.u c.it c.t) es) ∙ g.2.0) h.0))
+    (and_from _ _ (ap (λ z. means_array b (meaning_in c.t.names z)) g.0.0 ∙ g.0.1) (and_from _ _ (sym (all_same (is_meant c.u c.it c.t) es) ∙ g.2.0) h.0))
     (and_from _ _ (ap is_name g.0.0 ∙ g.1) (and_from _ _ (sym (all_same (is_spelt c.u c.it) es) ∙ g.2.1) h.1))
 assigned_kept c p n (Some (Meaning.Variable x)) es names v g k h =
     let f = g.0 (not-true (is_among c.s.iterators x.serial) k) in
     kept_simple c (stmt.SetLocal p (local_number c.s x.serial) v) _ _ (fold_stmt-SetLocal (stmt_meant c.u) (loop_meant c.u) p (local_number c.s x.serial) v) (fold_stmt-SetLocal (stmt_spelt c.u) (loop_spelt c.u) p (local_number c.s x.serial) v)
-    (and_from _ _ (ap (λ z. is_local c.t (local_number c.s x.serial) (meaning_in c.t.names z)) f.0 ∙ f.1) h.0)
+    (and_from _ _ (ap (λ z. means_local c.t (local_number c.s x.serial) (meaning_in c.t.names z)) f.0 ∙ f.1) h.0)
     (and_from _ _ (ap is_name f.0 ∙ g.1) h.1)
 assigned_kept c p n (Some (Meaning.Iterator l)) es names v g k h = cc
 assigned_kept c p n (Some Meaning.Function) es names v g k h = cc
@@ -127,7 +127,7 @@ pub increased_kept : (c : Place) (p : ℕ) (atomic : Bool) (n : Spelling) (m : O
 increased_kept c p atomic n None es names v g k h = cc
 increased_kept c p atomic n (Some (Meaning.Array b d)) es names v g k h =
     kept_simple c (stmt.AddTo p b es v atomic) _ _ (fold_stmt-AddTo (stmt_meant c.u) (loop_meant c.u) p b es v atomic) (fold_stmt-AddTo (stmt_spelt c.u) (loop_spelt c.u) p b es v atomic)
-    (and_from _ _ (ap (λ z. is_array b (meaning_in c.t.names z)) g.0.0 ∙ g.0.1) (and_from _ _ (sym (all_same (is_meant c.u c.it c.t) es) ∙ g.2.0) h.0))
+    (and_from _ _ (ap (λ z. means_array b (meaning_in c.t.names z)) g.0.0 ∙ g.0.1) (and_from _ _ (sym (all_same (is_meant c.u c.it c.t) es) ∙ g.2.0) h.0))
     (and_from _ _ (ap is_name g.0.0 ∙ g.1) (and_from _ _ (sym (all_same (is_spelt c.u c.it) es) ∙ g.2.1) h.1))
 increased_kept c p atomic n (Some (Meaning.Variable x)) es names v g k h = combined_kept c p binary.Add n (Some (Meaning.Variable x)) es names v g k h
 increased_kept c p atomic n (Some (Meaning.Iterator l)) es names v g k h = cc

@@ -28,7 +28,7 @@ use Rattle.species_ast.proofs.ScopeLaws.{reading-Number, reading-Target, reading
 use Rattle.species_print.specs.Expressions.{array_name, local_name, iter_name}
 use Rattle.species_ast.specs.declared.tree.Mark.TheVariants as mark
 use Rattle.species_readback.proofs.ExpressionLemmas.{value_by}
-use Rattle.species_readback.specs.Meant.{is_meant, expr_meant, is_array, is_local, is_iterator}
+use Rattle.species_readback.specs.Meant.{is_meant, expr_meant, means_array, means_local, means_iterator}
 use Rattle.species_readback.specs.Spelt.{is_species_text, is_header, mark_spelt, is_literal, is_spelt, expr_spelt}
 use Rattle.species_readback.proofs.ListLemmas.{all_split}
 
@@ -73,9 +73,9 @@ is_fine its o = is_kept_as its o.role o.means
 
 -- what a name w means in the one, and what in the other
 abbrev pub Agree : Unit → List (List ℕ) → Scope → Scope → Option Meaning → Option Meaning → List ℕ → Type 0
-Agree u it s t (Some (Meaning.Array a n)) k w = (array_name u a ≡ w) × (is_array a k ≡ true)
-Agree u it s t (Some (Meaning.Variable x)) k w = is_among s.iterators x.serial ≡ false → (local_name u (local_number s x.serial) ≡ w) × (is_local t (local_number s x.serial) k ≡ true)
-Agree u it s t (Some (Meaning.Iterator l)) k w = (l < length it) × (iter_name it l ≡ w) × (is_iterator l k ≡ true)
+Agree u it s t (Some (Meaning.Array a n)) k w = (array_name u a ≡ w) × (means_array a k ≡ true)
+Agree u it s t (Some (Meaning.Variable x)) k w = is_among s.iterators x.serial ≡ false → (local_name u (local_number s x.serial) ≡ w) × (means_local t (local_number s x.serial) k ≡ true)
+Agree u it s t (Some (Meaning.Iterator l)) k w = (l < length it) × (iter_name it l ≡ w) × (means_iterator l k ≡ true)
 Agree u it s t (Some Meaning.Function) k w = Prim.Unit {0}
 Agree u it s t None k w = Prim.Unit {0}
 
@@ -115,9 +115,9 @@ sound-Cond : (u : Unit) (it : List (List ℕ)) (t : Scope) (c a b : Expr) → So
 sound-Cond u it t c a b j h k =
     (fold_expr-Cond (expr_meant u it t) c a b ∙ both_true _ _ j.0 (both_true _ _ h.0 k.0), fold_expr-Cond (expr_spelt u it) c a b ∙ both_true _ _ j.1 (both_true _ _ h.1 k.1))
 
-pub sound-Elem : (u : Unit) (it : List (List ℕ)) (t : Scope) (a : ℕ) (es : List Expr) (w : List ℕ) → array_name u a ≡ w → is_array a (meaning_in t.names w) ≡ true → is_name w ≡ true → AllSound u it t es → Sound u it t (expr.Elem a es)
+pub sound-Elem : (u : Unit) (it : List (List ℕ)) (t : Scope) (a : ℕ) (es : List Expr) (w : List ℕ) → array_name u a ≡ w → means_array a (meaning_in t.names w) ≡ true → is_name w ≡ true → AllSound u it t es → Sound u it t (expr.Elem a es)
 sound-Elem u it t a es w is m n h =
-    (fold_expr-Elem (expr_meant u it t) a es ∙ both_true _ _ (ap (λ z. is_array a (meaning_in t.names z)) is ∙ m) h.0, fold_expr-Elem (expr_spelt u it) a es ∙ both_true _ _ (ap is_name is ∙ n) h.1)
+    (fold_expr-Elem (expr_meant u it t) a es ∙ both_true _ _ (ap (λ z. means_array a (meaning_in t.names z)) is ∙ m) h.0, fold_expr-Elem (expr_spelt u it) a es ∙ both_true _ _ (ap is_name is ∙ n) h.1)
 
 pub taken_sound : (u : Unit) (it : List (List ℕ)) (s t : Scope) (w : List ℕ) (m : Option Meaning) (es : List Expr) → MatchesAt u it s t m w → is_kept s.iterators m ≡ true → is_name w ≡ true → AllSound u it t es
     → Sound u it t (value_by s m es)
@@ -125,9 +125,9 @@ taken_sound u it s t w None es h k n a = cc
 taken_sound u it s t w (Some (Meaning.Array b d)) es h k n a = sound-Elem u it t b es w h.0 h.1 n a
 taken_sound u it s t w (Some (Meaning.Variable x)) es h k n a =
     let g = h (not-true (is_among s.iterators x.serial) k) in
-    (fold_expr-Local (expr_meant u it t) (local_number s x.serial) ∙ ap (λ z. is_local t (local_number s x.serial) (meaning_in t.names z)) g.0 ∙ g.1, fold_expr-Local (expr_spelt u it) (local_number s x.serial) ∙ ap is_name g.0 ∙ n)
+    (fold_expr-Local (expr_meant u it t) (local_number s x.serial) ∙ ap (λ z. means_local t (local_number s x.serial) (meaning_in t.names z)) g.0 ∙ g.1, fold_expr-Local (expr_spelt u it) (local_number s x.serial) ∙ ap is_name g.0 ∙ n)
 taken_sound u it s t w (Some (Meaning.Iterator l)) es h k n a =
-    (fold_expr-Iter (expr_meant u it t) l ∙ ap (λ z. is_iterator l (meaning_in t.names z)) h.1 ∙ h.2, fold_expr-Iter (expr_spelt u it) l ∙ ap is_name h.1 ∙ n)
+    (fold_expr-Iter (expr_meant u it t) l ∙ ap (λ z. means_iterator l (meaning_in t.names z)) h.1 ∙ h.2, fold_expr-Iter (expr_spelt u it) l ∙ ap is_name h.1 ∙ n)
 taken_sound u it s t w (Some Meaning.Function) es h k n a = cc
 
 -- ---- derivations

@@ -33,7 +33,7 @@ use Rattle.species_print.specs.Statements.{Layout, all_of, element, assignment, 
 use Rattle.species_readback.proofs.ExpressionLemmas.{Quiet, quiet_append, Derivation, Reads, expr_reads, lowered, SubsDerivation, subs_reads}
 use Rattle.species_readback.proofs.GivesLemmas.{Gives, token, gives_map, gives_nil, gives_lexeme, gives_blank, gives_append, gives_line}
 use Rattle.species_readback.specs.Unplaced.{unplaced, unplaced_at, unplaced_loop}
-use Rattle.species_readback.specs.Meant.{is_meant, is_array, is_local, Meant, list_next, list_locals, list_holds, element_meant, stmt_meant, loop_meant, meant}
+use Rattle.species_readback.specs.Meant.{is_meant, means_array, means_local, Meant, list_next, list_locals, list_holds, element_meant, stmt_meant, loop_meant, meant}
 use Rattle.species_ast.specs.Signs.{assignment_sign}
 use Rattle.species_readback.proofs.ListLemmas.{map_append}
 
@@ -199,7 +199,7 @@ change_becomes s text es e sign ts d f y h = record {
 
 -- ---- what is set
 
-set_array : (s : Scope) (p a : ℕ) (n : Spelling) (m : Option Meaning) (subs : List Expr) (names : List Occurrence) (v : Expr) → is_array a m ≡ true
+set_array : (s : Scope) (p a : ℕ) (n : Spelling) (m : Option Meaning) (subs : List Expr) (names : List Occurrence) (v : Expr) → means_array a m ≡ true
     → walk.assigned s p (record { name = n; means = m; subs = subs; names = names }) v ≡ stmt.Assign p a subs v ∷ []
 set_array s p a n None subs names v h = cc
 set_array s p a n (Some (Meaning.Array b k)) subs names v h = ap (λ z. stmt.Assign p z subs v ∷ []) (eqb-true b a h)
@@ -207,7 +207,7 @@ set_array s p a n (Some (Meaning.Variable x)) subs names v h = cc
 set_array s p a n (Some (Meaning.Iterator k)) subs names v h = cc
 set_array s p a n (Some Meaning.Function) subs names v h = cc
 
-add_array : (s : Scope) (p a : ℕ) (atomic : Bool) (n : Spelling) (m : Option Meaning) (subs : List Expr) (names : List Occurrence) (v : Expr) → is_array a m ≡ true
+add_array : (s : Scope) (p a : ℕ) (atomic : Bool) (n : Spelling) (m : Option Meaning) (subs : List Expr) (names : List Occurrence) (v : Expr) → means_array a m ≡ true
     → walk.increased s p atomic (record { name = n; means = m; subs = subs; names = names }) v ≡ stmt.AddTo p a subs v atomic ∷ []
 add_array s p a atomic n None subs names v h = cc
 add_array s p a atomic n (Some (Meaning.Array b k)) subs names v h = ap (λ z. stmt.AddTo p z subs v atomic ∷ []) (eqb-true b a h)
@@ -215,7 +215,7 @@ add_array s p a atomic n (Some (Meaning.Variable x)) subs names v h = cc
 add_array s p a atomic n (Some (Meaning.Iterator k)) subs names v h = cc
 add_array s p a atomic n (Some Meaning.Function) subs names v h = cc
 
-set_local : (s : Scope) (p x : ℕ) (n : Spelling) (m : Option Meaning) (subs : List Expr) (names : List Occurrence) (v : Expr) → is_local s x m ≡ true
+set_local : (s : Scope) (p x : ℕ) (n : Spelling) (m : Option Meaning) (subs : List Expr) (names : List Occurrence) (v : Expr) → means_local s x m ≡ true
     → walk.assigned s p (record { name = n; means = m; subs = subs; names = names }) v ≡ stmt.SetLocal p x v ∷ []
 set_local s p x n None subs names v h = cc
 set_local s p x n (Some (Meaning.Array b k)) subs names v h = cc
@@ -230,7 +230,7 @@ assign_claim u place a es e =
     stated u (stmt.Assign place a es e) (stmt_step u (Stmt-F.Assign place a es e)) (stmt_meant u (Stmt-F.Assign place a es e)) (roll-Stmt (Stmt-F.Assign 0 a es e))
     (fold_stmt-Assign (stmt_step u) (loop_layer true u) place a es e) (fold_stmt-Assign (stmt_meant u) (loop_meant u) place a es e) (fold_stmt-Assign unplaced_at unplaced_loop place a es e)
     (λ it ind s w.
-    let k = and_parts (is_array a (meaning_in s.names (array_name u a))) (list_all (is_meant u it s) es && is_meant u it s e) w in
+    let k = and_parts (means_array a (meaning_in s.names (array_name u a))) (list_all (is_meant u it s) es && is_meant u it s e) w in
     let l = and_parts (list_all (is_meant u it s) es) (is_meant u it s e) k.1 in
     gives_line {F = StmtDerivation s (roll-Stmt (Stmt-F.Assign 0 a es e)) (stmt_meant u (Stmt-F.Assign place a es e))} ind (assignment u it (element u it a es) (codes "=") e)
     (gives_map {F = ChangeParts s (array_name u a) es e (codes "=")} (assignment u it (element u it a es) (codes "=") e)
@@ -239,7 +239,7 @@ assign_claim u place a es e =
       item = λ rest more c. BlockItems.item false _ rest ts more (change_derives s (array_name u a) es e op.Plain ts d) c;
       becomes = subst (λ f. Becomes (f s) (roll-Stmt (Stmt-F.Assign 0 a es e) ∷ []) s []) (sym (stmt_fragment-Change p (change.Set t.raw op.Plain v.raw)))
           (change_becomes s (array_name u a) es e (codes "=") ts d (λ s. walk.operated s p op.Plain) (roll-Stmt (Stmt-F.Assign 0 a es e))
-          (ap (map unplaced) (set_array s p a r.name r.means r.subs r.names (reading v.raw s).expr (ap (is_array a) t.is_means ∙ k.0))
+          (ap (map unplaced) (set_array s p a r.name r.means r.subs r.names (reading v.raw s).expr (ap (means_array a) t.is_means ∙ k.0))
           ∙ ap (λ z. z ∷ []) (fold_stmt-Assign unplaced_at unplaced_loop p a r.subs (reading v.raw s).expr)
           ∙ (λ i. roll-Stmt (Stmt-F.Assign 0 a (t.is_subs i) (v.becomes i)) ∷ [])));
     })
@@ -250,7 +250,7 @@ local_claim u place n e =
     stated u (stmt.SetLocal place n e) (stmt_step u (Stmt-F.SetLocal place n e)) (stmt_meant u (Stmt-F.SetLocal place n e)) (roll-Stmt (Stmt-F.SetLocal 0 n e))
     (fold_stmt-SetLocal (stmt_step u) (loop_layer true u) place n e) (fold_stmt-SetLocal (stmt_meant u) (loop_meant u) place n e) (fold_stmt-SetLocal unplaced_at unplaced_loop place n e)
     (λ it ind s w.
-    let k = and_parts (is_local s n (meaning_in s.names (local_name u n))) (is_meant u it s e) w in
+    let k = and_parts (means_local s n (meaning_in s.names (local_name u n))) (is_meant u it s e) w in
     gives_line {F = StmtDerivation s (roll-Stmt (Stmt-F.SetLocal 0 n e)) (stmt_meant u (Stmt-F.SetLocal place n e))} ind (assignment u it (name (local_name u n) ∷ []) (codes "=") e)
     (gives_map {F = ChangeParts s (local_name u n) [] e (codes "=")} (assignment u it (name (local_name u n) ∷ []) (codes "=") e)
     (λ ts d. let t = d.target_of in let v = d.value_of in let p = target_place t.raw in let r = target_in t.raw s in record {
@@ -258,7 +258,7 @@ local_claim u place n e =
       item = λ rest more c. BlockItems.item false _ rest ts more (change_derives s (local_name u n) [] e op.Plain ts d) c;
       becomes = subst (λ f. Becomes (f s) (roll-Stmt (Stmt-F.SetLocal 0 n e) ∷ []) s []) (sym (stmt_fragment-Change p (change.Set t.raw op.Plain v.raw)))
           (change_becomes s (local_name u n) [] e (codes "=") ts d (λ s. walk.operated s p op.Plain) (roll-Stmt (Stmt-F.SetLocal 0 n e))
-          (ap (map unplaced) (set_local s p n r.name r.means r.subs r.names (reading v.raw s).expr (ap (is_local s n) t.is_means ∙ k.0))
+          (ap (map unplaced) (set_local s p n r.name r.means r.subs r.names (reading v.raw s).expr (ap (means_local s n) t.is_means ∙ k.0))
           ∙ ap (λ z. z ∷ []) (fold_stmt-SetLocal unplaced_at unplaced_loop p n (reading v.raw s).expr)
           ∙ (λ i. roll-Stmt (Stmt-F.SetLocal 0 n (v.becomes i)) ∷ [])));
     })
@@ -266,18 +266,18 @@ local_claim u place n e =
 
 -- an addition, with or without its pragma
 add_piece : (u : Unit) (s : Scope) (a : ℕ) (es : List Expr) (e : Expr) (atomic : Bool) (ts : List Token) (d : ChangeParts s (array_name u a) es e (codes "+=") ts) (p : ℕ)
-    → is_array a (meaning_in s.names (array_name u a)) ≡ true
+    → means_array a (meaning_in s.names (array_name u a)) ≡ true
     → map unplaced (walk.increased s p atomic (target_in d.target_of.raw s) (reading d.value_of.raw s).expr) ≡ roll-Stmt (Stmt-F.AddTo 0 a es e atomic) ∷ []
 add_piece u s a es e atomic ts d p h =
     let t = d.target_of in let v = d.value_of in let r = target_in t.raw s in
-    ap (map unplaced) (add_array s p a atomic r.name r.means r.subs r.names (reading v.raw s).expr (ap (is_array a) t.is_means ∙ h))
+    ap (map unplaced) (add_array s p a atomic r.name r.means r.subs r.names (reading v.raw s).expr (ap (means_array a) t.is_means ∙ h))
     ∙ ap (λ z. z ∷ []) (fold_stmt-AddTo unplaced_at unplaced_loop p a r.subs (reading v.raw s).expr atomic)
     ∙ (λ i. roll-Stmt (Stmt-F.AddTo 0 a (t.is_subs i) (v.becomes i) atomic) ∷ [])
 
 add_gives : (u : Unit) (place a : ℕ) (es : List Expr) (e : Expr) (atomic : Bool) (it : List (List ℕ)) (ind : List ℕ) (s : Scope) → element_meant u a es e it s ≡ true
     → Gives (stmt_step u (Stmt-F.AddTo place a es e atomic) it ind) (StmtDerivation s (roll-Stmt (Stmt-F.AddTo 0 a es e atomic)) (stmt_meant u (Stmt-F.AddTo place a es e atomic)))
 add_gives u place a es e false it ind s w =
-    let k = and_parts (is_array a (meaning_in s.names (array_name u a))) (list_all (is_meant u it s) es && is_meant u it s e) w in
+    let k = and_parts (means_array a (meaning_in s.names (array_name u a))) (list_all (is_meant u it s) es && is_meant u it s e) w in
     let l = and_parts (list_all (is_meant u it s) es) (is_meant u it s e) k.1 in
     gives_line {F = StmtDerivation s (roll-Stmt (Stmt-F.AddTo 0 a es e false)) (stmt_meant u (Stmt-F.AddTo place a es e false))} ind (assignment u it (element u it a es) (codes "+=") e)
     (gives_map {F = ChangeParts s (array_name u a) es e (codes "+=")} (assignment u it (element u it a es) (codes "+=") e)
@@ -289,7 +289,7 @@ add_gives u place a es e false it ind s w =
     })
     (assignment_gives u it s (array_name u a) es e (codes "+=") l.0 l.1))
 add_gives u place a es e true it ind s w =
-    let k = and_parts (is_array a (meaning_in s.names (array_name u a))) (list_all (is_meant u it s) es && is_meant u it s e) w in
+    let k = and_parts (means_array a (meaning_in s.names (array_name u a))) (list_all (is_meant u it s) es && is_meant u it s e) w in
     let l = and_parts (list_all (is_meant u it s) es) (is_meant u it s e) k.1 in
     let pragma = codes "#pragma omp atomic update" in
     gives_append {F = λ ts. (p : ℕ) × (ts ≡ token p pragma kind.Atomic ∷ [])} {G = ChangeParts s (array_name u a) es e (codes "+=")} (atomic_line true ind) (line ind (assignment u it (element u it a es) (codes "+=") e))

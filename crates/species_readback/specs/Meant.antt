@@ -1,5 +1,6 @@
 -- Units whose names mean what they should: at each place where a name is printed, the scopes of the language (C17 6.2.1) give it
--- the array, the local or the iterator for which it is printed.
+-- the array, the local or the iterator for which it is printed. Of numbers it is asked what reading needs: that literals, steps and
+-- sizes are numbers of literals.
 use Rattle.std.specs.Prelude.{◌≡◌, ℕ, suc, Bool, true, false, not, ◌&&◌, nat_eq, List, [], ◌∷◌, ◌++◌, map, length, Option, Some, None, is_some}
 use Rattle.std.specs.List.{list_all, flat_map}
 use Rattle.species_ast.specs.Spelling.{Spelling}
@@ -19,25 +20,25 @@ use Rattle.species_readback.specs.Spelt.{is_literal, is_int_number, is_int_step}
 
 -- ---- what a name means
 
-abbrev pub is_array : ℕ → Option Meaning → Bool
-is_array array (Some (Meaning.Array n dimensions)) = nat_eq n array
-is_array array _ = false
+abbrev pub means_array : ℕ → Option Meaning → Bool
+means_array array (Some (Meaning.Array n dimensions)) = nat_eq n array
+means_array array _ = false
 
-abbrev pub is_local : Scope → ℕ → Option Meaning → Bool
-is_local s n (Some (Meaning.Variable x)) = nat_eq (local_number s x.serial) n
-is_local s n _ = false
+abbrev pub means_local : Scope → ℕ → Option Meaning → Bool
+means_local s n (Some (Meaning.Variable x)) = nat_eq (local_number s x.serial) n
+means_local s n _ = false
 
-abbrev pub is_iterator : ℕ → Option Meaning → Bool
-is_iterator level (Some (Meaning.Iterator n)) = nat_eq n level
-is_iterator level _ = false
+abbrev pub means_iterator : ℕ → Option Meaning → Bool
+means_iterator level (Some (Meaning.Iterator n)) = nat_eq n level
+means_iterator level _ = false
 
 -- ---- expressions
 
 abbrev pub expr_meant : Unit → List (List ℕ) → Scope → Expr-F Bool → Bool
 expr_meant u iters s (Expr-F.Literal v) = is_literal v
-expr_meant u iters s (Expr-F.Iter level) = is_iterator level (meaning_in s.names (iter_name iters level))
-expr_meant u iters s (Expr-F.Local n) = is_local s n (meaning_in s.names (local_name u n))
-expr_meant u iters s (Expr-F.Elem array subs) = is_array array (meaning_in s.names (array_name u array)) && all_true subs
+expr_meant u iters s (Expr-F.Iter level) = means_iterator level (meaning_in s.names (iter_name iters level))
+expr_meant u iters s (Expr-F.Local n) = means_local s n (meaning_in s.names (local_name u n))
+expr_meant u iters s (Expr-F.Elem array subs) = means_array array (meaning_in s.names (array_name u array)) && all_true subs
 expr_meant u iters s (Expr-F.Unary op a) = a
 expr_meant u iters s (Expr-F.Binary op a b) = a && b
 expr_meant u iters s (Expr-F.And a b) = a && b
@@ -87,7 +88,7 @@ simple holds = record { next = λ s. s; locals = []; holds = holds }
 
 abbrev pub element_meant : Unit → ℕ → List Expr → Expr → List (List ℕ) → Scope → Bool
 element_meant u array subs value iters s =
-    is_array array (meaning_in s.names (array_name u array)) && (list_all (is_meant u iters s) subs && is_meant u iters s value)
+    means_array array (meaning_in s.names (array_name u array)) && (list_all (is_meant u iters s) subs && is_meant u iters s value)
 
 -- locals have their numbers in the order of their declarations
 abbrev pub stmt_meant : Unit → Stmt-F Meant Meant → Meant
@@ -101,7 +102,7 @@ stmt_meant u (Stmt-F.Declare place n init) = record {
       && (nat_eq (local_number s s.serials) n && init_meant u iters (declared u n (is_some init) s) init);
 }
 stmt_meant u (Stmt-F.SetLocal place n value) =
-    simple (λ iters s. is_local s n (meaning_in s.names (local_name u n)) && is_meant u iters s value)
+    simple (λ iters s. means_local s n (meaning_in s.names (local_name u n)) && is_meant u iters s value)
 stmt_meant u (Stmt-F.If place test body otherwise) = record {
   next = λ s. let between = behind s (list_next body s) in behind between (list_next otherwise between);
   locals = list_locals body ++ list_locals otherwise;
