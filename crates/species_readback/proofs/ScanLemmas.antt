@@ -93,7 +93,7 @@ cut_turn : (c : Bool) (n m k : ℕ) → (n ≤ k → m ≡ n) → cond c (1 + n)
 cut_turn true n m k same h = ap (λ i. 1 + i) (same (omega (arith, h)))
 cut_turn false n m k same h = refl
 
-prefix_cut : (p : ℕ → Bool) (bytes : List ℕ) (k : ℕ) → prefix_len p bytes ≤ k → prefix_len p (take k bytes) ≡ prefix_len p bytes
+pub prefix_cut : (p : ℕ → Bool) (bytes : List ℕ) (k : ℕ) → prefix_len p bytes ≤ k → prefix_len p (take k bytes) ≡ prefix_len p bytes
 prefix_cut p [] zero h = refl
 prefix_cut p [] (suc k) h = refl
 prefix_cut p (b ∷ bytes) zero h = omega (arith, h)

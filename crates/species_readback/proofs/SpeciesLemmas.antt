@@ -185,11 +185,12 @@ end_after at t w v (Scan.comment _ b a bytes n (p ∷ ps) g h o s) = omega (arit
 end_after at t w v (Scan.part _ b bytes n ps g f h len s) = omega (arith, end_part at b bytes n ps len, end_from (at + suc n) (drop n bytes) ps s)
 
 -- what stands alone behind `#pragma species `: the same parts, from the sixteenth byte on
-record Alone (t : List ℕ) (p : Part) (ps : List Part) : Type 0 where
-  moved : Moved p.at 16 t (p ∷ ps)
-  size : ℕ
-  ends : parts_end p.at (p ∷ ps) ≡ p.at + size
-  cut : take size t ≡ t
+pub record Alone (t : List ℕ) (p : Part) (ps : List Part) : Type 0 where
+  pub scan : Scan p.at t (p ∷ ps)
+  pub moved : Moved p.at 16 t (p ∷ ps)
+  pub size : ℕ
+  pub ends : parts_end p.at (p ∷ ps) ≡ p.at + size
+  pub cut : take size t ≡ t
 
 -- the content from the first part of the text on, cut behind its last part
 alone_from : (h : ℕ) (bytes t : List ℕ) (p : Part) (ps : List Part) (g : ℕ) → p.at ≡ 1 + g
@@ -208,8 +209,10 @@ alone_from h bytes t p ps g stands s text =
     slice_is h bytes n g k fits
     ∙ ap (λ i. slice_range (h ∷ bytes) i (i + k)) (sym at_is)
     ∙ ap (λ e. slice_range (h ∷ bytes) p.at e) (sym ends) ∙ text in
+    let cut = subst (λ z. Scan p.at z (p ∷ ps)) is (cut_scan p.at content (p ∷ ps) s k ends) in
     record {
-      moved = move p.at 16 t (p ∷ ps) (subst (λ z. Scan p.at z (p ∷ ps)) is (cut_scan p.at content (p ∷ ps) s k ends));
+      scan = cut;
+      moved = move p.at 16 t (p ∷ ps) cut;
       size = k;
       ends = ends;
       cut = ap (take k) (sym is) ∙ take_twice k content ∙ is;
@@ -301,7 +304,7 @@ alone_pragma t p ps a plain goes =
     ∙ alone_species t p ps a goes
 
 -- a line whose content is all of it
-whole_line : (bytes : List ℕ) (ps : List Part) → is_include (35 ∷ bytes) ≡ false → Scan 1 bytes ps → form_of (35 ∷ bytes) ≡ parts_form (35 ∷ bytes) ps
+pub whole_line : (bytes : List ℕ) (ps : List Part) → is_include (35 ∷ bytes) ≡ false → Scan 1 bytes ps → form_of (35 ∷ bytes) ≡ parts_form (35 ∷ bytes) ps
 unfolding form_of
 whole_line bytes ps goes s =
     let whole : content_len bytes ≡ length bytes = is_whole 1 bytes ps s in
@@ -312,7 +315,7 @@ whole_line bytes ps goes s =
     ∙ ap (λ z. parts_form (35 ∷ bytes) (parts_of 1 z)) (take-length bytes)
     ∙ ap (parts_form (35 ∷ bytes)) (parts_are 1 bytes ps s (length bytes) (omega arith))
 
-alone_form : (t : List ℕ) (p : Part) (ps : List Part) (a : Alone t p ps) → offset_of (codes "\\") (p ∷ ps) ≡ None → is_end_of_kernel p ps ≡ false
+pub alone_form : (t : List ℕ) (p : Part) (ps : List Part) (a : Alone t p ps) → offset_of (codes "\\") (p ∷ ps) ≡ None → is_end_of_kernel p ps ≡ false
     → IsSpecies (form_of (alone_line t)) t
 alone_form t p ps a plain goes =
     whole_line (codes "pragma species " ++ t) (alone_parts a.moved.parts) refl (alone_scan t a.moved.parts a.moved.scan)
@@ -381,6 +384,34 @@ found_in line t all s h = one h.head h.tail h.parts h.has
 
     one : (o : Part) (tail : List Part) → all ≡ o ∷ tail → HasPragma line t tail → Found line t
     one o tail e p = two o tail e p.second p.more p.parts p.no_backslash p.has
+
+-- The parts of a species text that is taken from a line: they stand in the text from its first byte to its last.
+pub record Given (line t : List ℕ) : Type 0 where
+  pub at : ℕ
+  pub first : Part
+  pub rest : List Part
+  pub scan : Scan at t (first ∷ rest)
+  pub ends : parts_end at (first ∷ rest) ≡ at + length t
+  pub plain : offset_of (codes "\\") (first ∷ rest) ≡ None
+  pub text : slice_range line at (parts_end at (first ∷ rest)) ≡ t
+
+pub given_text : (b : ℕ) (bytes t : List ℕ) → IsSpecies (form_of (b ∷ bytes)) t → Given (b ∷ bytes) t
+given_text b bytes t h =
+    go (found_in (b ∷ bytes) t (parts_of 1 (content_of (b ∷ bytes))) (content_scan bytes) (line_parts (b ∷ bytes) t h))
+  where
+    go : Found (b ∷ bytes) t → Given (b ∷ bytes) t
+    go f =
+        let a = alone_from b bytes t f.first f.rest f.gap f.stands f.scan f.text in
+        let within = end_within f.first.at t (f.first ∷ f.rest) a.scan in
+        record {
+          at = f.first.at;
+          first = f.first;
+          rest = f.rest;
+          scan = a.scan;
+          ends = omega (arith, a.ends, within, length-take a.size t, ap length a.cut);
+          plain = f.plain;
+          text = f.text;
+        }
 
 taken_back : (line t : List ℕ) → IsSpecies (form_of line) t → IsSpecies (form_of (alone_line t)) t
 taken_back [] t h = go (line_parts [] t h)
