@@ -1,6 +1,5 @@
 -- Each place of a derived arc that is covered is a place of a given arc.
-use Rattle.std.proofs.Common.{◌≡◌, ap, sym, subst, arith, ℕ, ◌<◌, List, [], ◌∷◌, length, slice_index_or, All, ℤ, ◌+ℤ◌, ◌-ℤ◌, ◌≤ℤ◌, Bool}
-use Rattle.std.specs.List.{Any}
+use Rattle.std.proofs.Common.{◌≡◌, ap, sym, subst, arith, ℕ, List, [], ◌∷◌, slice_index_or, All, ℤ, ◌+ℤ◌, ◌-ℤ◌, Bool}
 use Rattle.std.specs.Int.{◌∣◌}
 use Rattle.std.specs.Int.RustNames.{unsigned_abs}
 use Rattle.std.proofs.lemmas.Int.{ints}

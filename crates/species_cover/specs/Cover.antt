@@ -1,5 +1,5 @@
 -- When a given arc says at least what a derived arc says.
-use Rattle.std.specs.Prelude.{◌≡◌, ◌+ℤ◌, ◌<◌, min, ℕ, ℤ, Bool, List, length, slice_index_or, Some, IsTrue}
+use Rattle.std.specs.Prelude.{◌≡◌, ◌+ℤ◌, ◌<◌, min, ℕ, Bool, List, length, slice_index_or, Some, IsTrue}
 use Rattle.std.specs.List.{Any}
 use Rattle.species_arcs.specs.declared.places.Arc.{Arc}
 use Rattle.species_arcs.specs.declared.places.ArcDim.{ArcDim}

@@ -1,5 +1,5 @@
 -- Arcs whose numbers are small enough for machine words.
-use Rattle.std.specs.Prelude.{ℕ, ◌<◌, ◌≤◌, ◌^◌, All}
+use Rattle.std.specs.Prelude.{◌<◌, ◌≤◌, ◌^◌, All}
 use Rattle.std.specs.Int.RustNames.{unsigned_abs}
 use Rattle.species_arcs.specs.declared.places.Arc.{Arc}
 use Rattle.species_arcs.specs.declared.places.ArcDim.{ArcDim}

@@ -1,6 +1,5 @@
-use Rattle.std.proofs.Common.{◌≡◌, ◌≢◌, arith, subst, sym, length, slice_index_or, refl}
-use Rattle.species_arcs.specs.Pairwise.{Pairwise}
-use Rattle.species_arcs.proofs.PairwiseLaws.{pairwise_length, pairwise_at, pairwise_more, pairwise_whole}
+use Rattle.std.proofs.Common.{arith, subst, sym, slice_index_or}
+use Rattle.species_arcs.proofs.PairwiseLaws.{pairwise_length, pairwise_at, pairwise_more}
 use Rattle.species_notation.specs.declared.given.GivenDim.{GivenDim}
 use Rattle.species_arcs.specs.declared.places.ArcDim.{ArcDim}
 use Rattle.species_cover.specs.Cover.{CoversDim}

@@ -1,4 +1,4 @@
-use Rattle.std.proofs.Common.{◌≡◌, ◌∙◌, sym, refl}
+use Rattle.std.proofs.Common.{◌∙◌, sym, refl}
 use Rattle.species_cover.proofs.DimLemmas.{not_within, covers_plain, covers_exact, is_no_wider}
 use Rattle.species_cover.proofs.dims.dim_covers.Goals as goal
 
