@@ -60,12 +60,14 @@ rest_all [] (suc i) all = all
 rest_all (size ∷ sizes) (suc i) all = rest_all sizes i (both_second (nat_le 1 size) (list_all (nat_le 1) sizes) all)
 
 -- the number of elements so far is not too great
-pub few_so_far : (x : Array) (i more : ℕ) → IsTrue (is_made_array x) → more * product (drop i x.dims) ≡ product x.dims → more ≤ 16777216
-few_so_far x i more made is =
+pub few_so_far : (x : Array) (sizes : List ℕ) (i more : ℕ) → IsTrue (is_made_array x) → sizes ≡ x.dims → more * product (drop i sizes) ≡ product sizes → more ≤ 16777216
+few_so_far x sizes i more made same is =
     let lawful = both_second (not (has_too_many_dimensions x)) (has_lawful_sizes x) made in
-    let some = at_least_one (drop i x.dims) (rest_all x.dims i (both_first (list_all (nat_le 1) x.dims) (nat_le (product x.dims) most_elements) lawful)) in
+    let ones = both_first (list_all (nat_le 1) x.dims) (nat_le (product x.dims) most_elements) lawful in
+    let some = at_least_one (drop i sizes) (rest_all sizes i (ap (list_all (nat_le 1)) same ∙ ones)) in
     let most : product x.dims ≤ 16777216 = leb-true (product x.dims) most_elements (both_second (list_all (nat_le 1) x.dims) (nat_le (product x.dims) most_elements) lawful) in
-    omega (arith, is, most, mul-le-mul_left more some)
+    let all : product sizes ≡ product x.dims = ap product same in
+    omega (arith, is, most, all, mul-le-mul_left more some)
 
 -- ---- a row that was read
 

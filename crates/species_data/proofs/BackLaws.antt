@@ -1,22 +1,23 @@
 -- What is written is read back.
-use Rattle.std.proofs.Common.{◌≡◌, ◌∙◌, ap, sym, subst, refl, ℕ, zero, suc, ◌+◌, ◌<◌, ◌≤◌, Bool, true, false, ◌&&◌, ◌||◌, not, cond, if◌then◌else◌, List, [], ◌∷◌, ◌++◌, map, length, replicate, set, get_or, append_assoc, append-nil, length-append, Option, Some, None, Result, Ok, Err, IsTrue, arith}
+use Rattle.std.proofs.Common.{◌≡◌, ◌∙◌, ap, sym, subst, refl, ℕ, zero, suc, ◌+◌, ◌<◌, ◌≤◌, Bool, true, false, ◌&&◌, ◌||◌, not, cond, if◌then◌else◌, List, [], ◌∷◌, ◌++◌, map, length, replicate, set, get_or, append_assoc, append-nil, length-append, pos, Option, Some, None, Result, Ok, Err, IsTrue, arith}
 use Rattle.std.specs.Prelude.{All, slice_get, flat_map, bytes_eq, nat_le, ◌==◌}
 use Rattle.std.specs.List.{list_all, position_from, Contains}
 use Rattle.std.proofs.lemmas.Bool.Decides.{nat_tests}
 use Rattle.std.proofs.lemmas.Slice.Eq.{bytes_eq-Decides}
-use Rattle.species_decimal.specs.Words.{Word, begins_solid, words_at}
+use Rattle.species_decimal.specs.Words.{Word, is_solid, begins_solid, words_at}
 use Rattle.species_decimal.proofs.WordLaws.{both_first, both_second, blank_first, word_then}
 use Rattle.species_ast.specs.declared.tree.Array.{Array}
 use Rattle.species_ast.specs.declared.tree.Kind.{Kind}
 use Rattle.species_ast.specs.declared.tree.Value.{Value}
 use Rattle.species_ast.specs.Accesses.{Cells}
 use Rattle.species_ast.specs.Evaluation.{product}
+use Rattle.species_ast.specs.Operators.{in_kind}
 use Rattle.species_ast.specs.Names.{is_letter, is_digit, is_word, is_name, is_keyword}
 use Rattle.species_ast.specs.Run.{AreArraysOf, zeros_of}
 use Rattle.species_runs.specs.Distinct.{Distinct}
 use Rattle.species_runs.specs.Values.{IsOf}
 use Rattle.species_data.specs.Elements.{value_text, element_of}
-use Rattle.species_data.specs.Lines.{is_gap, is_solid, is_in_line, Line, lines_at}
+use Rattle.species_data.specs.Lines.{is_gap, is_in_line, Line, lines_at}
 use Rattle.species_data.specs.Data.{then_values, values_of, given_row, Reading, has_stood, after_row, row_of, row_at, row_read, number_named, words_read, line_read, then_lines, lines_read, none_yet, arrays_of, data_at}
 use Rattle.species_data.specs.Text.{spaced, row_text, data_text, HaveNames}
 use Rattle.species_data.proofs.ElementLaws.{element_written, value_solid, value_in_line, value_some}
@@ -46,7 +47,7 @@ no_word b c word other = go (b == c) refl
         let wrong : true ≡ false = sym (subst (λ x. is_word x ≡ true) same word) ∙ other in
         absurd (cc)
 
-word_solid : (b : ℕ) → is_word b ≡ true → is_solid b ≡ true
+word_solid : (b : ℕ) → is_word b ≡ true → is_solid is_gap b ≡ true
 word_solid b word =
     ap (λ t. not (t || b == 9 || b == 13)) (no_word b 32 word refl)
     ∙ ap (λ t. not (t || b == 13)) (no_word b 9 word refl)
@@ -94,7 +95,7 @@ row_in_line k (v ∷ row) all =
 line_words : (p : ℕ) (name : List ℕ) (row : List Value) → is_name name ≡ true
     → words_at is_gap p (name ++ flat_map spaced row) ≡ record { place = p; text = name } ∷ words_at is_gap (p + length name) (flat_map spaced row)
 line_words p name row is =
-    word_then is_gap p name (flat_map spaced row) (name_some name is) (all_as is_word is_solid word_solid name (name_words name is)) (no_word_goes_on row)
+    word_then is_gap p name (flat_map spaced row) (name_some name is) (all_as is_word (is_solid is_gap) word_solid name (name_words name is)) (no_word_goes_on row)
 
 -- ---- a list at the end of its first part
 
@@ -133,8 +134,14 @@ found k (x ∷ before) after a distinct = go (bytes_eq x.name a.name) refl (foun
 
 -- ---- a line
 
+abbrev reading : Cells → List Bool → Reading
+reading m flags = record { arrays = m; stood = flags }
+
 abbrev so_far : Cells → List Array → List Bool → Reading
-so_far done rest flags = record { arrays = done ++ zeros_of rest; stood = flags ++ replicate (length rest) false }
+so_far done rest flags = reading (done ++ zeros_of rest) (flags ++ replicate (length rest) false)
+
+abbrev zero_row : Array → List Value
+zero_row a = replicate (product a.dims) (in_kind a.kind (pos 0))
 
 line_back : (before rest : List Array) (a : Array) (done : Cells) (row : List Value) (flags : List Bool) (p : ℕ)
     → length done ≡ length before → length flags ≡ length before → Distinct (map (λ x. x.name) (before ++ a ∷ rest)) → is_name a.name ≡ true
@@ -151,14 +158,15 @@ line_back before rest a done row flags p many_done many_flags distinct is_a_name
     let number : number_named arrays a.name ≡ Some n = found 0 before rest a distinct ∙ ap Some (let same : 0 + n ≡ n = omega arith in same) in
     let new : has_stood r n ≡ false = ap (λ k. get_or (flags ++ false ∷ replicate (length rest) false) k true) (sym many_flags) ∙ get_middle flags (replicate (length rest) false) false true in
     let said : values_of a.kind end (product a.dims) ws ≡ Ok row = ap (λ k. values_of a.kind end k ws) (sym long) ∙ elements_back a.kind end (p + length a.name) row all in
-    let cells : set r.arrays n row ≡ (done ++ row ∷ []) ++ zeros_of rest = ap (λ k. set r.arrays k row) (sym many_done) ∙ set_middle done (zeros_of rest) _ row in
+    let cells : set r.arrays n row ≡ (done ++ row ∷ []) ++ zeros_of rest = ap (λ k. set r.arrays k row) (sym many_done) ∙ set_middle done (zeros_of rest) (zero_row a) row in
     let stood : set r.stood n true ≡ (flags ++ true ∷ []) ++ replicate (length rest) false = ap (λ k. set r.stood k true) (sym many_flags) ∙ set_middle flags (replicate (length rest) false) false true in
     ap (λ words. words_read arrays r words end) (line_words p a.name row is_a_name)
     ∙ ap (row_at arrays r name ws end) number
     ∙ ap (row_of r name ws end n) (slice_middle before rest a)
     ∙ ap (λ t. if t then Err p else after_row r n (given_row r.arrays n (values_of a.kind end (product a.dims) ws))) new
     ∙ ap (λ o. after_row r n (given_row r.arrays n o)) said
-    ∙ (λ i. Ok (record { arrays = cells i; stood = stood i }))
+    ∙ ap (λ m. Ok (reading m (set r.stood n true))) cells
+    ∙ ap (λ fs. Ok (reading ((done ++ row ∷ []) ++ zeros_of rest) fs)) stood
 
 -- ---- all lines
 

@@ -12,6 +12,7 @@ use Rattle.std.proofs.lemmas.Bool.Decides.{nat_tests}
 use Rattle.std.proofs.lemmas.Int.{ints}
 use Rattle.std.proofs.lemmas.Fmt.{digits_decimal, decimal_nonempty}
 use Rattle.species_decimal.specs.Number.{number_of as written_as}
+use Rattle.species_decimal.specs.Words.{is_solid}
 use Rattle.species_decimal.proofs.NumberLaws.{number_written, number_read}
 use Rattle.species_ast.specs.declared.tree.Kind.{Kind}
 use Rattle.species_ast.specs.declared.tree.Kind.TheVariants as kind
@@ -20,7 +21,7 @@ use Rattle.species_ast.specs.declared.tree.Value.TheVariants.{Int, Unsigned, Lon
 use Rattle.species_ast.specs.Operators.{kind_of, number_of, in_kind, residue, signed_from, reduced, is_number_of, IsValue}
 use Rattle.species_runs.specs.Values.{IsOf}
 use Rattle.species_runs.proofs.ValueLaws.{value_in, residue_below}
-use Rattle.species_data.specs.Lines.{is_solid, is_in_line}
+use Rattle.species_data.specs.Lines.{is_gap, is_in_line}
 use Rattle.species_data.specs.Elements.{value_text, below_zero, signed_of, integer_of, element_of}
 
 -- ---- the numbers of a kind
@@ -136,10 +137,10 @@ pub value_all : (q : ℕ → Bool) → ((b : ℕ) → digit_value b < 10 → q b
     → list_all q (value_text v) ≡ true
 value_all q each minus v is = number_all q each minus (number_of v) (fits_any (kind_of v) (number_of v) (number_within (kind_of v) (number_of v) is))
 
-pub value_solid : (v : Value) → IsValue v → list_all is_solid (value_text v) ≡ true
-value_solid v is = value_all is_solid each refl v is
+pub value_solid : (v : Value) → IsValue v → list_all (is_solid is_gap) (value_text v) ≡ true
+value_solid v is = value_all (is_solid is_gap) each refl v is
   where
-    each : (b : ℕ) → digit_value b < 10 → is_solid b ≡ true
+    each : (b : ℕ) → digit_value b < 10 → is_solid is_gap b ≡ true
     each b digit =
         ap (λ t. not (t || b == 9 || b == 13)) (no_digit b 32 digit (omega arith))
         ∙ ap (λ t. not (t || b == 13)) (no_digit b 9 digit (omega arith))

@@ -56,7 +56,7 @@ row_turn arrays m i x text grown less same is so_far grown_is =
     let here : drop i arrays ≡ x ∷ drop (i + 1) arrays = rw (add-one, drop-cons arrays i x less) (ap (λ y. y ∷ drop (suc i) arrays) (sym is)) in
     let row : drop i m ≡ get_or m i [] ∷ drop (i + 1) m = rw (add-one, drop-cons m i [] (omega (arith, less, same))) refl in
     let rest = data_text (drop (i + 1) arrays) (drop (i + 1) m) in
-    so_far ∙ (λ k. text ++ data_text (here k) (row k))
+    so_far ∙ ap (λ l. text ++ data_text l (drop i m)) here ∙ ap (λ rows. text ++ data_text (x ∷ drop (i + 1) arrays) rows) row
     ∙ sym (append_assoc text (row_text x.name (get_or m i [])) rest)
     ∙ ap (λ t. t ++ rest) (sym grown_is)
 

@@ -6,10 +6,6 @@ use Rattle.species_ast.specs.Text.Characters.{is_line_feed}
 abbrev pub is_gap : ℕ → Bool
 is_gap b = b == 32 || b == 9 || b == 13
 
--- a byte of a word
-abbrev pub is_solid : ℕ → Bool
-is_solid b = not (is_gap b)
-
 -- a byte of a line
 abbrev pub is_in_line : ℕ → Bool
 is_in_line b = not (is_line_feed b)

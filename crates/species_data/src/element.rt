@@ -1,6 +1,6 @@
 //! An element of data, as a word.
 
-ghost use Rattle.std.specs.Prelude.{◌≡◌, ◌++◌, ◌^◌, ◌<◌, Some, IfSome, OnOk, OnErr};
+ghost use Rattle.std.specs.Prelude.{◌≡◌, ◌++◌, ◌^◌, ◌<◌, Some, IfSome, OnOk};
 ghost use Rattle.species_ast.specs.declared.tree.Value.{Value};
 ghost use Rattle.species_runs.specs.Values.{IsOf};
 ghost use Rattle.species_data.specs.Elements.{signed_of, element_of, value_text};

@@ -1,11 +1,13 @@
 //! Rows of elements, as the lines of data say them.
 
-ghost use Rattle.std.specs.Prelude.{◌≡◌, ◌+◌, ◌*◌, ◌≤◌, length, get_or, replicate, false, drop, Ok, Err, IfOk, IfErr, OnOk, IsTrue};
+ghost use Rattle.std.specs.Prelude.{◌≡◌, ◌+◌, ◌≤◌, ◌<◌, [], length, get_or, false, Ok, Err, IfOk, IfErr, OnOk, IsTrue};
+ghost use Rattle.std.specs.List.{list_all};
 ghost use Rattle.species_ast.specs.Evaluation.{product};
 ghost use Rattle.species_ast.specs.Limits.{most_bytes};
-ghost use Rattle.species_ast.specs.Run.{AreArraysOf, zeros_of};
+ghost use Rattle.species_ast.specs.Run.{AreArraysOf};
 ghost use Rattle.species_ast.specs.Scope.WellMade.{is_made_array};
-ghost use Rattle.species_data.specs.Data.{Reading, values_of, given_row, none_yet, has_stood, line_read};
+ghost use Rattle.species_data.specs.Data.{values_of, given_row, none_yet, has_stood, row_read, line_read};
+ghost use Rattle.species_data.specs.Seen.{seen};
 
 use crate::element::element;
 use crate::names::Names;
@@ -89,7 +91,8 @@ impl Rows {
 
     /// Whether the line of an array stood there.
     fn has_stood(&self, number: u32) -> bool
-        ensures { result ≡ has_stood self.now number }
+        ensures value { result ≡ has_stood self.now number }
+        ensures within { result ≡ false → number < length self.now.stood }
     {
         let number = number as usize;
         if number < self.stood.len() {
@@ -136,9 +139,10 @@ pub(crate) fn size_of(array: &Array) -> u32
     requires { IsTrue (is_made_array array.now) }
     ensures { result ≡ product array.now.dims }
 {
-    let mut size: u32 = 1;
-    for length in array.dims.as_slice() {
-        size *= *length;
+    let sizes = array.dims.as_slice();
+    let mut count: u32 = 1;
+    for size in sizes {
+        count *= *size;
     }
-    size
+    count
 }

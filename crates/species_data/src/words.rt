@@ -3,8 +3,8 @@
 ghost use Rattle.std.specs.Prelude.{◌≡◌, ◌≤◌, ◌+◌, [], ◌∷◌, length, MatchOption};
 ghost use Rattle.std.specs.List.{prefix_len};
 ghost use Rattle.species_ast.specs.Limits.{most_bytes};
-ghost use Rattle.species_decimal.specs.Words.{words_at};
-ghost use Rattle.species_data.specs.Lines.{is_gap, is_solid, is_in_line};
+ghost use Rattle.species_decimal.specs.Words.{is_solid, words_at};
+ghost use Rattle.species_data.specs.Lines.{is_gap, is_in_line};
 ghost use Rattle.species_data.specs.Seen.{seen};
 
 use std::marker::Model;
@@ -74,7 +74,7 @@ fn gap_len(bytes: &[u8]) -> usize
 
 /// How many bytes of a word stand at the front.
 fn word_len(bytes: &[u8]) -> usize
-    ensures value { result ≡ prefix_len is_solid bytes.now }
+    ensures value { result ≡ prefix_len (is_solid is_gap) bytes.now }
     ensures within { result ≤ length bytes.now }
 {
     bytes.iter().take_while(|b| !is_gap(**b)).count()

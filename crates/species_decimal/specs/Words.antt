@@ -6,10 +6,13 @@ pub record Word : Type 0 where
   pub place : ℕ
   pub text : List ℕ
 
--- the first byte is one of a word
+-- a byte of a word
+abbrev pub is_solid : (ℕ → Bool) → ℕ → Bool
+is_solid is_blank b = not (is_blank b)
+
 abbrev pub begins_solid : (ℕ → Bool) → List ℕ → Bool
 begins_solid is_blank [] = false
-begins_solid is_blank (b ∷ bytes) = not (is_blank b)
+begins_solid is_blank (b ∷ bytes) = is_solid is_blank b
 
 -- a byte of a word put before the words behind it: before the first of them, where that goes on with it
 abbrev pub led_by : ℕ → ℕ → Bool → List Word → List Word
