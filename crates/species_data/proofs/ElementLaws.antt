@@ -167,7 +167,7 @@ signed_written most (pos n) small h = go (decimal n) refl
     fits = omega (arith, small, h)
 
     go : (w : List ℕ) → decimal n ≡ w → signed_of most w ≡ Some (pos n)
-    go [] e = let some : 0 < length [] = subst (λ (w : List ℕ). 0 < length w) e (decimal_nonempty n fits) in absurd (omega (arith, some))
+    go [] e = let some : 0 < length {A = ℕ} [] = subst (λ (w : List ℕ). 0 < length w) e (decimal_nonempty n fits) in absurd (omega (arith, some))
     go (b ∷ digits) e =
         let all : AllDigits 10 (b ∷ digits) = subst (AllDigits 10) e (digits_decimal own n fits) in
         ap (λ t. if t then below_zero (written_as (most + 1) digits) else option_map pos (written_as most (b ∷ digits))) (no_digit b 45 all.0 (omega arith))

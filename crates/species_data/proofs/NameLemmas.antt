@@ -19,13 +19,14 @@ pub numbers_none : (arrays : List Array) (table : Table) → ((name : List ℕ) 
     → NumbersFrom (length arrays) arrays table
 numbers_none arrays table none name = none name ∙ ap (position_from (λ a. bytes_eq a.name name) (length arrays)) (sym (drop_all (length arrays) arrays (omega arith)))
 
-pub numbers_next : (arrays : List Array) (old new : Table) (n : ℕ) (x : Array) → n < length arrays → x ≡ get_or arrays n x
-    → NumbersFrom (n + 1) arrays old → Sets old new x.name n → NumbersFrom n arrays new
-numbers_next arrays old new n x less is h sets name =
+pub numbers_next : (arrays : List Array) (old new : Table) (m n : ℕ) (x : Array) (name : List ℕ) → n < length arrays → x ≡ get_or arrays n x → m ≡ n + 1
+    → name ≡ x.name → NumbersFrom m arrays old → Sets old new name n → NumbersFrom n arrays new
+numbers_next arrays old new m n x name less is after name_is h sets q =
     let here : drop n arrays ≡ x ∷ drop (n + 1) arrays = rw (add-one, drop-cons arrays n x less) (ap (λ y. y ∷ drop (suc n) arrays) (sym is)) in
-    hash_map_updates_str x.name old new (Some n) sets name
-    ∙ ap (cond (bytes_eq x.name name) (Some n)) (h name)
-    ∙ ap (position_from (λ a. bytes_eq a.name name) n) (sym here)
+    hash_map_updates_str name old new (Some n) sets q
+    ∙ ap (cond (bytes_eq name q) (Some n)) (h q ∙ ap (λ k. position_from (λ a. bytes_eq a.name q) k (drop k arrays)) after)
+    ∙ ap (λ w. cond (bytes_eq w q) (Some n) (position_from (λ a. bytes_eq a.name q) (n + 1) (drop (n + 1) arrays))) name_is
+    ∙ ap (position_from (λ a. bytes_eq a.name q) n) (sym here)
 
 pub numbers_all : (arrays : List Array) (table : Table) → NumbersFrom 0 arrays table → Numbers arrays table
 numbers_all arrays table h name = h name

@@ -17,6 +17,12 @@ pub(crate) fn element(kind: Kind, word: &[u8]) -> Option<Value>
     ensures written { IfSome result (λ v. IsOf kind v × (word.now ≡ value_text v)) }
     ensures read { (v : Value) → IsOf kind v → word.now ≡ value_text v → result ≡ Some v }
 {
+    value_of(kind, word)
+}
+
+fn value_of(kind: Kind, word: &[u8]) -> Option<Value>
+    ensures { result ≡ element_of kind word.now }
+{
     match kind {
         Kind::Int => match signed(word, 2_147_483_647) {
             Some(number) => Some(Value::Int(number as i32)),
@@ -42,16 +48,20 @@ fn signed(word: &[u8], most: u64) -> Option<i64>
     requires { most < 2 ^ 63 }
     ensures { result ≡ signed_of most word.now }
 {
-    match word.split_first() {
-        Some((b'-', digits)) => match read_decimal(digits, most + 1) {
+    let Some((first, digits)) = word.split_first() else {
+        return None;
+    };
+    if *first == b'-' {
+        match read_decimal(digits, most + 1) {
             Some(0) => None,
             Some(size) => Some(-1 - (size - 1) as i64),
             None => None,
-        },
-        _ => match read_decimal(word, most) {
+        }
+    } else {
+        match read_decimal(word, most) {
             Some(size) => Some(size as i64),
             None => None,
-        },
+        }
     }
 }
 
