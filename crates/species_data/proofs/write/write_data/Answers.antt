@@ -11,9 +11,9 @@ put_row-requires-clause-row c =
     let arrays = c.args.unit.now.arrays in
     let i = c.loop-array.array-index in
     let x = c.array-item.result in
-    let long : length c.as_slice.result.now ≡ length arrays = ap (λ (l : List Array). length l) c.as_slice.ensures in
+    let long : length c.as_slice-array-items.result.now ≡ length arrays = ap (λ (l : List Array). length l) c.as_slice-array-items.ensures in
     let less : i < length arrays = omega (arith, c.loop-array-test.true, long) in
-    let is : x ≡ get_or arrays i x = c.array-item.is ∙ ap (λ l. get_or l i x) c.as_slice.ensures in
+    let is : x ≡ get_or arrays i x = c.array-item.is ∙ ap (λ l. get_or l i x) c.as_slice-array-items.ensures in
     ap (λ k. length (get_or c.args.arrays.now k [])) c.loop-array.invariant.number
     ∙ got_row arrays c.args.arrays.now i x c.requires.arrays (got_item arrays i x less is)
 
@@ -24,9 +24,9 @@ loop-array-preserved c =
     let i = c.loop-array.array-index in
     let x = c.array-item.result in
     let text = c.loop-array.text.items in
-    let long : length c.as_slice.result.now ≡ length arrays = ap (λ (l : List Array). length l) c.as_slice.ensures in
+    let long : length c.as_slice-array-items.result.now ≡ length arrays = ap (λ (l : List Array). length l) c.as_slice-array-items.ensures in
     let less : i < length arrays = omega (arith, c.loop-array-test.true, long) in
-    let is : x ≡ get_or arrays i x = c.array-item.is ∙ ap (λ l. get_or l i x) c.as_slice.ensures in
+    let is : x ≡ get_or arrays i x = c.array-item.is ∙ ap (λ l. get_or l i x) c.as_slice-array-items.ensures in
     record {
       number = omega (arith, c.loop-array.invariant.number);
       text =
@@ -38,6 +38,6 @@ pub returns-clause-read_back : goal.returns-clause-read_back
 returns-clause-read_back c = λ names.
     let arrays = c.args.unit.now.arrays in
     let m = c.args.arrays.now in
-    let long : length c.as_slice.result.now ≡ length arrays = ap (λ (l : List Array). length l) c.as_slice.ensures in
+    let long : length c.as_slice-array-items.result.now ≡ length arrays = ap (λ (l : List Array). length l) c.as_slice-array-items.ensures in
     let ended : length arrays ≤ c.loop-array.array-index = omega (arith, c.loop-array-test.false, long) in
     written_back arrays m c.loop-array.text.items c.requires.arrays names (rows_end arrays m c.loop-array.array-index c.loop-array.text.items ended c.loop-array.invariant.text)

@@ -1,4 +1,5 @@
-use Rattle.std.proofs.Common.{arith, ◌≡◌, ◌+◌, ◌-◌, ◌<◌, length}
+use Rattle.std.proofs.Common.{arith, ap, sym, ◌∙◌, ◌≡◌, ◌+◌, ◌-◌, ◌<◌, length}
+use Rattle.species_ast.specs.declared.tree.Array.{Array}
 use Rattle.species_data.proofs.NameLemmas.{numbers_next}
 use Rattle.species_data.proofs.names.Names.new.Goals as goal
 
@@ -12,5 +13,5 @@ loop-number-preserved c =
       within = omega (arith, c.loop-number.invariant.within);
       table =
           numbers_next arrays c.loop-number.numbers c.insert.new.self n (n - 1) c.index-arrays-number.result c.as_slice.result.now less
-          c.index-arrays-number.is after c.as_slice.ensures c.loop-number.invariant.table c.in_ok-insert.ensures.updates;
+          c.index-arrays-number.is after (c.as_slice.ensures ∙ ap (λ (y : Array). y.name) (sym c.index-arrays-number.is)) c.loop-number.invariant.table c.in_ok-insert.ensures.updates;
     }
