@@ -1,6 +1,6 @@
 -- What is written is read back.
-use Rattle.std.proofs.Common.{◌≡◌, ◌∙◌, ap, sym, subst, refl, ℕ, zero, suc, ◌+◌, ◌<◌, ◌≤◌, Bool, true, false, ◌&&◌, ◌||◌, not, cond, if◌then◌else◌, List, [], ◌∷◌, ◌++◌, map, length, replicate, set, get_or, append_assoc, append-nil, length-append, pos, Option, Some, None, Result, Ok, Err, IsTrue, arith}
-use Rattle.std.specs.Prelude.{All, slice_get, flat_map, bytes_eq, nat_le, ◌==◌}
+use Rattle.std.proofs.Common.{◌≡◌, ◌∙◌, ap, sym, subst, refl, ℕ, suc, ◌+◌, ◌<◌, Bool, true, false, ◌&&◌, ◌||◌, not, cond, if◌then◌else◌, List, [], ◌∷◌, ◌++◌, map, length, replicate, set, get_or, append_assoc, length-append, pos, Some, Ok, Err, arith}
+use Rattle.std.specs.Prelude.{All, slice_get, flat_map, bytes_eq, ◌==◌}
 use Rattle.std.specs.List.{list_all, position_from, Contains}
 use Rattle.std.proofs.lemmas.Bool.Decides.{nat_tests}
 use Rattle.std.proofs.lemmas.Slice.Eq.{bytes_eq-Decides}
@@ -16,12 +16,12 @@ use Rattle.species_ast.specs.Names.{is_letter, is_digit, is_word, is_name, is_ke
 use Rattle.species_ast.specs.Run.{AreArraysOf, zeros_of}
 use Rattle.species_runs.specs.Distinct.{Distinct}
 use Rattle.species_runs.specs.Values.{IsOf}
-use Rattle.species_data.specs.Elements.{value_text, element_of}
-use Rattle.species_data.specs.Lines.{is_gap, is_in_line, Line, lines_at}
-use Rattle.species_data.specs.Data.{then_values, values_of, given_row, Reading, has_stood, after_row, row_of, row_at, row_read, number_named, words_read, line_read, then_lines, lines_read, none_yet, arrays_of, data_at}
-use Rattle.species_data.specs.Text.{spaced, row_text, data_text, HaveNames}
+use Rattle.species_data.specs.Elements.{value_text}
+use Rattle.species_data.specs.Lines.{is_gap, is_in_line, lines_at}
+use Rattle.species_data.specs.Data.{then_values, values_of, given_row, Reading, has_stood, after_row, row_of, row_at, number_named, words_read, line_read, then_lines, lines_read, arrays_of, data_at}
+use Rattle.species_data.specs.Text.{spaced, data_text, HaveNames}
 use Rattle.species_data.proofs.ElementLaws.{element_written, value_solid, value_in_line, value_some}
-use Rattle.species_data.proofs.ArrayLaws.{all_rest, as_many}
+use Rattle.species_data.proofs.ArrayLaws.{all_rest}
 use Rattle.species_data.proofs.LineLaws.{line_then}
 
 -- ---- the bytes of a name

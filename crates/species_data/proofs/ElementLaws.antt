@@ -1,6 +1,6 @@
 -- What is read of a word is the value that is written so.
 use Rattle.std.proofs.Common.{◌≡◌, ◌∙◌, ap, sym, subst, refl, ℕ, zero, suc, ◌+◌, ◌-◌, ◌<◌, ◌≤◌, ◌^◌, Bool, true, false, ◌&&◌, ◌||◌, not, if◌then◌else◌, List, [], ◌∷◌, length, decimal, ℤ, pos, negsuc, ◌-ℤ◌, Option, Some, None, IfSome, ◌⊎◌, inl, inr, arith}
-use Rattle.std.specs.Prelude.{option_map, nat_eq, nat_lt, ◌==◌, ◌%◌}
+use Rattle.std.specs.Prelude.{option_map, nat_lt, ◌==◌, ◌%◌}
 use Rattle.std.specs.List.{list_all}
 use Rattle.std.specs.Char.{digit_value}
 use Rattle.std.specs.Fmt.{signed_decimal}
@@ -22,7 +22,7 @@ use Rattle.species_ast.specs.Operators.{kind_of, number_of, in_kind, residue, si
 use Rattle.species_runs.specs.Values.{IsOf}
 use Rattle.species_runs.proofs.ValueLaws.{value_in, residue_below}
 use Rattle.species_data.specs.Lines.{is_gap, is_in_line}
-use Rattle.species_data.specs.Elements.{value_text, below_zero, signed_of, integer_of, element_of}
+use Rattle.species_data.specs.Elements.{value_text, below_zero, signed_of, element_of}
 
 -- ---- the numbers of a kind
 

@@ -1,5 +1,5 @@
 -- The lines of a text.
-use Rattle.std.proofs.Common.{◌≡◌, ◌∙◌, ap, sym, refl, ℕ, zero, suc, ◌+◌, ◌<◌, Bool, true, false, not, if◌then◌else◌, List, [], ◌∷◌, ◌++◌, length, take, drop, arith}
+use Rattle.std.proofs.Common.{◌≡◌, ◌∙◌, ap, refl, ℕ, suc, ◌+◌, ◌<◌, Bool, true, false, not, if◌then◌else◌, List, [], ◌∷◌, ◌++◌, length, take, drop, arith}
 use Rattle.std.specs.List.{prefix_len, list_all}
 use Rattle.species_decimal.proofs.WordLaws.{both_first, both_second}
 use Rattle.species_ast.specs.Text.Characters.{is_line_feed}

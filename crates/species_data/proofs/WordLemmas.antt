@@ -1,8 +1,8 @@
 -- The words of a line, one after another.
-use Rattle.std.proofs.Common.{◌≡◌, ◌∙◌, ap, sym, refl, ℕ, zero, suc, ◌+◌, ◌-◌, ◌<◌, ◌≤◌, Bool, true, false, not, cond, List, [], ◌∷◌, length, take, drop, take_all, arith}
+use Rattle.std.proofs.Common.{◌≡◌, ◌∙◌, ap, sym, refl, ℕ, suc, ◌+◌, ◌-◌, ◌<◌, Bool, true, false, not, cond, List, [], ◌∷◌, length, take, drop, take_all, arith}
 use Rattle.std.specs.List.{prefix_len}
 use Rattle.std.proofs.lemmas.List.{length-drop}
-use Rattle.species_decimal.specs.Words.{Word, is_solid, words_at}
+use Rattle.species_decimal.specs.Words.{is_solid, words_at}
 use Rattle.species_decimal.proofs.WordLaws.{blanks_first, word_bytes}
 use Rattle.species_data.specs.Lines.{is_gap}
 

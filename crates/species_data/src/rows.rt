@@ -68,7 +68,13 @@ impl Rows {
     }
 
     /// Reads the line of the array of this name.
-    fn read_row(&mut self, names: &Names, name: Word, words: &mut Words, end: u32) -> Result<(), u32>
+    fn read_row(
+        &mut self,
+        names: &Names,
+        name: Word,
+        words: &mut Words,
+        end: u32,
+    ) -> Result<(), u32>
         requires made { IsTrue (list_all is_made_array names.now) }
         requires arrays { AreArraysOf names.now self.old.arrays }
         ensures ok { OnOk result (row_read names.now self.old (seen name.entry) words.old end ≡ Ok self.new) }

@@ -32,7 +32,12 @@ pub fn write_data(alloc: Global, unit: &Unit, arrays: &Arrays) -> Result<Vec<u8>
 }
 
 /// The line of one array.
-fn put_row(array: &Array, arrays: &Arrays, number: u32, text: &mut Vec<u8>) -> Result<(), OutOfMemory>
+fn put_row(
+    array: &Array,
+    arrays: &Arrays,
+    number: u32,
+    text: &mut Vec<u8>,
+) -> Result<(), OutOfMemory>
     requires made { IsTrue (is_made_array array.now) }
     requires row { length (get_or arrays.now number []) ≡ product array.now.dims }
     ensures { OnOk result (text.new.items ≡ text.old.items ++ row_text array.now.name (get_or arrays.now number [])) }

@@ -1,5 +1,4 @@
-use Rattle.std.proofs.Common.{rules, arith, sym, ap, ◌∙◌, ◌≡◌, ◌<◌, [], Ok}
-use Rattle.species_ast.specs.Evaluation.{product}
+use Rattle.std.proofs.Common.{rules, arith, sym, ap, ◌∙◌, ◌≡◌, ◌<◌, []}
 use Rattle.species_data.specs.Data.{values_of, given_row}
 use Rattle.species_data.specs.Seen.{seen}
 use Rattle.species_data.proofs.RowLemmas.{filling_goes_on, few_fail}
