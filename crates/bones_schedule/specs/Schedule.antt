@@ -1,7 +1,7 @@
 -- The numbers of a schedule.
 use Rattle.std.specs.Prelude.{ℕ, List, [], ◌∷◌, Option, Some, None, Result, Ok, Err}
 use Rattle.species_decimal.specs.Number.{number_of}
-use Rattle.bones_schedule.specs.Words.{Word}
+use Rattle.species_decimal.specs.Words.{Word}
 
 -- a number, at a place, before those of the words behind it
 abbrev pub then_numbers : Option ℕ → ℕ → Result (List ℕ) ℕ → Result (List ℕ) ℕ

@@ -4,7 +4,8 @@
 ghost use Rattle.std.specs.Prelude.{◌≡◌, ◌+◌, ◌≤◌, ℕ, length, Ok, Err, IfOk};
 ghost use Rattle.std.specs.List.{prefix_len};
 ghost use Rattle.species_ast.specs.Limits.{most_bytes};
-ghost use Rattle.bones_schedule.specs.Words.{is_solid, words_at};
+ghost use Rattle.species_ast.specs.Text.Characters.{is_blank};
+ghost use Rattle.species_decimal.specs.Words.{is_solid, words_at};
 ghost use Rattle.bones_schedule.specs.Schedule.{numbers_of};
 
 use species_decimal::read_decimal;
@@ -43,8 +44,8 @@ impl<T: Drop> From<AllocFailed<T>> for ScheduleRefusal {
 /// The numbers of a schedule, whose text stands at the place `base` of the input.
 pub fn read_schedule(alloc: Global, text: &[u8], base: u32) -> Result<Vec<u32>, ScheduleRefusal>
     requires { base + length text.now ≤ most_bytes }
-    ensures numbers { IfOk result (λ v. numbers_of (words_at base text.now) ≡ Ok v.items) }
-    ensures syntax { (place : ℕ) → result ≡ Err (ScheduleRefusal.Syntax place) → numbers_of (words_at base text.now) ≡ Err place }
+    ensures numbers { IfOk result (λ v. numbers_of (words_at is_blank base text.now) ≡ Ok v.items) }
+    ensures syntax { (place : ℕ) → result ≡ Err (ScheduleRefusal.Syntax place) → numbers_of (words_at is_blank base text.now) ≡ Err place }
 {
     let mut numbers = Vec::new(alloc);
     let mut at = 0;
@@ -66,7 +67,7 @@ pub fn read_schedule(alloc: Global, text: &[u8], base: u32) -> Result<Vec<u32>, 
 
 /// How many bytes of a word stand at the front.
 fn word_len(bytes: &[u8]) -> usize
-    ensures value { result ≡ prefix_len is_solid bytes.now }
+    ensures value { result ≡ prefix_len (is_solid is_blank) bytes.now }
     ensures within { result ≤ length bytes.now }
 {
     bytes.iter().take_while(|b| is_solid(**b)).count()
@@ -74,7 +75,7 @@ fn word_len(bytes: &[u8]) -> usize
 
 /// No space, tab, line feed, vertical tab, form feed or carriage return.
 fn is_solid(b: u8) -> bool
-    ensures { result ≡ is_solid b }
+    ensures { result ≡ is_solid is_blank b }
 {
     b != b' ' && (b < 9 || 13 < b)
 }

@@ -1,2 +1,3 @@
 mod Digits
 pub mod NumberLaws
+pub mod WordLaws
