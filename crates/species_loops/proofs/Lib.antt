@@ -3,3 +3,4 @@ mod ExtremeLaws
 mod HeaderLaws
 mod FrontLaws
 mod PathLaws
+mod WeightLaws

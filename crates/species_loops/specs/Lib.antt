@@ -5,3 +5,4 @@ pub mod Extremes
 pub mod Sizes
 pub mod Headers
 pub mod Bands
+pub mod Weights

@@ -155,7 +155,7 @@ fn narrow(n: i128) -> i64
 }
 
 /// Whether one of the ranges is empty.
-fn has_empty(path: &[LoopRange]) -> bool
+pub(crate) fn has_empty(path: &[LoopRange]) -> bool
     ensures { result ≡ hulls.has_empty (ranges_seen path.now) }
 {
     for range in path {

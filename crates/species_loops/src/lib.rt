@@ -9,8 +9,10 @@ mod header;
 mod line;
 mod magnitude;
 mod path;
+mod weigh;
 
 pub use front::{is_band, perfect_depth};
 pub use header::{Header, bounds_fit, range_of};
 pub use magnitude::passes_bound;
 pub use path::Path;
+pub use weigh::weight;
