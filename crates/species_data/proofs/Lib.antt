@@ -1,9 +1,0 @@
-mod ArrayLaws
-mod BackLaws
-mod ElementLaws
-mod LineLaws
-mod NameLemmas
-mod ReadLemmas
-mod RowLemmas
-mod WordLemmas
-mod WriteLemmas
