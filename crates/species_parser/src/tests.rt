@@ -10,7 +10,7 @@ mod tables;
 mod types;
 mod units;
 
-use crate::parse;
+use crate::{RawUnit, parse};
 use shown::{Shown, put_unit};
 use species_ast::MOST_BYTES;
 use std::alloc::Global;
@@ -58,30 +58,27 @@ static PROGRAM_WITH_PLACES: Setting = Setting {
     places: true,
 };
 
+/// A tree as a text.
+fn tree_text(alloc: Global, unit: &RawUnit<'_>, places: bool) -> Result<String, Fail> {
+    let mut out = Shown::new(alloc, places);
+    put_unit(unit, &mut out);
+    Ok(String::from_utf8(out.into_text())?)
+}
+
 /// What is answered of a text.
-fn answer(alloc: Global, text: &[u8], places: bool) -> Result<Vec<u8>, Fail> {
+fn answer(alloc: Global, text: &[u8], places: bool) -> Result<String, Fail> {
     if text.len() > MOST_BYTES as usize {
-        return Ok(Vec::new(alloc));
+        return Ok(String::new(alloc));
     }
     match parse(alloc, text) {
-        Ok(unit) => {
-            let mut out = Shown::new(alloc, places);
-            put_unit(&unit, &mut out)?;
-            Ok(out.into_text())
-        }
-        Err(refusal) => {
-            let text = format!(in alloc; "{refusal:?}")?;
-            Ok(text.into_bytes())
-        }
+        Ok(unit) => tree_text(alloc, &unit, places),
+        Err(refusal) => Ok(format!(in alloc; "{refusal:?}")?),
     }
 }
 
 /// A text between two others.
-fn joined(alloc: Global, before: &str, text: &str, behind: &str) -> Result<Vec<u8>, Fail> {
-    let mut all = Vec::from_slice(alloc, before.as_bytes())?;
-    all.extend_from_slice(text.as_bytes())?;
-    all.extend_from_slice(behind.as_bytes())?;
-    Ok(all)
+fn joined(alloc: Global, before: &str, text: &str, behind: &str) -> Result<String, Fail> {
+    Ok(format!(in alloc; "{before}{text}{behind}")?)
 }
 
 fn is_refusal(want: &str) -> bool {
@@ -89,11 +86,18 @@ fn is_refusal(want: &str) -> bool {
 }
 
 /// The answer that is wanted of a program with a gap: a refusal, or a tree.
-fn wanted(alloc: Global, setting: &Setting, want: &str) -> Result<Vec<u8>, Fail> {
+fn wanted(alloc: Global, setting: &Setting, want: &str) -> Result<String, Fail> {
     if is_refusal(want) {
-        return joined(alloc, "", want, "");
+        Ok(want.to_string(alloc)?)
+    } else {
+        joined(alloc, setting.shown_before, want, setting.shown_behind)
     }
-    joined(alloc, setting.shown_before, want, setting.shown_behind)
+}
+
+/// The answer to a program with this text in its gap.
+fn found(alloc: Global, setting: &Setting, text: &str) -> Result<String, Fail> {
+    let program = joined(alloc, setting.before, text, setting.behind)?;
+    answer(alloc, program.as_bytes(), setting.places)
 }
 
 fn compare(
@@ -103,14 +107,9 @@ fn compare(
     cases: &[(&str, &str)],
 ) -> Result<(), Fail> {
     for (text, want) in cases {
-        let program = joined(alloc, setting.before, text, setting.behind)?;
-        let found = answer(alloc, &program, setting.places)?;
+        let found = found(alloc, setting, text)?;
         let wanted = wanted(alloc, setting, want)?;
-        assert_eq!(rt;
-            str::from_utf8(&found)?,
-            str::from_utf8(&wanted)?,
-            "at {text}"
-        );
+        assert_eq!(rt; found.as_str(), wanted.as_str(), "at {text}");
     }
     Ok(())
 }

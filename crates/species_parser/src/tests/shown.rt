@@ -1,14 +1,14 @@
 //! Raw trees as texts of nested brackets: the operator or the word of a form, and then its parts.
 //! With places, each expression and statement has its place and a colon before it, and each name its
-//! place behind an `@`.
+//! place behind an `@`. Where memory runs out the text is too short, so that no test finds it right.
 
 mod expressions;
 mod statements;
 mod units;
 
 use crate::{RawName, RawOp, RawUnary};
-use species_ast::{Binary, Kind, OutOfMemory, Test, Value};
-use std::alloc::Global;
+use species_ast::{Kind, Value};
+use std::alloc::{AllocError, Global};
 pub(super) use units::put_unit;
 
 #[derive(Drop)]
@@ -31,55 +31,68 @@ impl Shown {
         self.text
     }
 
-    fn put(&mut self, text: &[u8]) -> Result<(), OutOfMemory> {
-        self.text.extend_from_slice(text)?;
-        Ok(())
+    fn put(&mut self, text: &[u8]) {
+        let _ = self.text.extend_from_slice(text);
     }
 
-    fn number(&mut self, number: i64) -> Result<(), OutOfMemory> {
-        let text = format!(in self.alloc; "{number}")?;
-        self.put(text.as_bytes())
+    fn open(&mut self, word: &[u8]) {
+        self.put(b"(");
+        self.put(word);
+    }
+
+    /// A blank, and an opening bracket.
+    fn open_next(&mut self) {
+        self.put(b" (");
+    }
+
+    fn close(&mut self) {
+        self.put(b")");
+    }
+
+    fn put_shown(&mut self, text: Result<String, AllocError>) {
+        if let Ok(text) = text {
+            self.put(text.as_bytes());
+        }
+    }
+
+    fn number(&mut self, number: i64) {
+        self.put_shown(format!(in self.alloc; "{number}"));
     }
 
     /// A blank, and the place of what comes.
-    fn begin(&mut self, place: u32) -> Result<(), OutOfMemory> {
-        self.put(b" ")?;
+    fn begin(&mut self, place: u32) {
+        self.put(b" ");
         if self.places {
-            self.number(i64::from(place))?;
-            self.put(b":")?;
+            self.number(i64::from(place));
+            self.put(b":");
         }
-        Ok(())
     }
 
-    fn name(&mut self, name: &RawName<'_>) -> Result<(), OutOfMemory> {
-        self.put(name.text)?;
+    fn name(&mut self, name: &RawName<'_>) {
+        self.put(name.text);
         if self.places {
-            self.put(b"@")?;
-            self.number(i64::from(name.place))?;
+            self.put(b"@");
+            self.number(i64::from(name.place));
         }
-        Ok(())
     }
 
-    fn spaced_name(&mut self, name: &RawName<'_>) -> Result<(), OutOfMemory> {
-        self.put(b" ")?;
-        self.name(name)
+    fn spaced_name(&mut self, name: &RawName<'_>) {
+        self.put(b" ");
+        self.name(name);
     }
 
-    fn value(&mut self, value: Value) -> Result<(), OutOfMemory> {
+    fn value(&mut self, value: Value) {
         match value {
             Value::Int(n) => self.number(i64::from(n)),
             Value::Unsigned(n) => {
-                self.number(i64::from(n))?;
-                self.put(b"u")
+                self.number(i64::from(n));
+                self.put(b"u");
             }
             Value::Long(n) => {
-                self.number(n)?;
-                self.put(b"ll")
+                self.number(n);
+                self.put(b"ll");
             }
-            Value::UnsignedLong(n) => {
-                let text = format!(in self.alloc; "{n}ull")?;
-                self.put(text.as_bytes())
-            }
+            Value::UnsignedLong(n) => self.put_shown(format!(in self.alloc; "{n}ull")),
         }
     }
 }
@@ -93,57 +106,27 @@ fn kind_word(kind: Kind) -> &'static [u8] {
     }
 }
 
-fn binary_word(op: Binary) -> &'static [u8] {
-    match op {
-        Binary::Mul => b"(*",
-        Binary::Div => b"(/",
-        Binary::Rem => b"(%",
-        Binary::Add => b"(+",
-        Binary::Sub => b"(-",
-        Binary::Shl => b"(<<",
-        Binary::Shr => b"(>>",
-        Binary::Lt => b"(<",
-        Binary::Le => b"(<=",
-        Binary::Gt => b"(>",
-        Binary::Ge => b"(>=",
-        Binary::Eq => b"(==",
-        Binary::Ne => b"(!=",
-        Binary::BitAnd => b"(&",
-        Binary::BitXor => b"(^",
-        Binary::BitOr => b"(|",
-    }
-}
-
 fn unary_word(op: RawUnary) -> &'static [u8] {
     match op {
-        RawUnary::Neg => b"(neg",
-        RawUnary::Plus => b"(plus",
-        RawUnary::Not => b"(not",
-        RawUnary::LogNot => b"(lognot",
+        RawUnary::Neg => b"neg",
+        RawUnary::Plus => b"plus",
+        RawUnary::Not => b"not",
+        RawUnary::LogNot => b"lognot",
     }
 }
 
 fn op_word(op: RawOp) -> &'static [u8] {
     match op {
-        RawOp::Plain => b"(=",
-        RawOp::Add => b"(+=",
-        RawOp::Sub => b"(-=",
-        RawOp::Mul => b"(*=",
-        RawOp::Div => b"(/=",
-        RawOp::Rem => b"(%=",
-        RawOp::BitAnd => b"(&=",
-        RawOp::BitXor => b"(^=",
-        RawOp::BitOr => b"(|=",
-        RawOp::Shl => b"(<<=",
-        RawOp::Shr => b"(>>=",
-    }
-}
-
-fn test_word(test: Test) -> &'static [u8] {
-    match test {
-        Test::Lt => b" <",
-        Test::Le => b" <=",
-        Test::Gt => b" >",
-        Test::Ge => b" >=",
+        RawOp::Plain => b"= ",
+        RawOp::Add => b"+= ",
+        RawOp::Sub => b"-= ",
+        RawOp::Mul => b"*= ",
+        RawOp::Div => b"/= ",
+        RawOp::Rem => b"%= ",
+        RawOp::BitAnd => b"&= ",
+        RawOp::BitXor => b"^= ",
+        RawOp::BitOr => b"|= ",
+        RawOp::Shl => b"<<= ",
+        RawOp::Shr => b">>= ",
     }
 }

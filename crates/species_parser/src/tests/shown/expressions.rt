@@ -1,80 +1,76 @@
 //! Expressions as texts.
-use super::{Shown, binary_word, kind_word, unary_word};
+use super::{Shown, kind_word, unary_word};
 use crate::{RawExpr, RawTarget, RawTerm};
-use species_ast::OutOfMemory;
 use sqlite_items::Boxed;
 
 #[cycle(put_expr)]
-pub(super) fn put_expr(expr: &RawExpr<'_>, out: &mut Shown) -> Result<(), OutOfMemory> {
-    out.begin(expr.place)?;
-    put_term(&expr.what, out)
+pub(super) fn put_expr(expr: &RawExpr<'_>, out: &mut Shown) {
+    out.begin(expr.place);
+    put_term(&expr.what, out);
 }
 
 #[cycle(put_expr)]
-fn put_term(term: &RawTerm<'_>, out: &mut Shown) -> Result<(), OutOfMemory> {
+fn put_term(term: &RawTerm<'_>, out: &mut Shown) {
     match term {
         RawTerm::Number(value) => out.value(*value),
         RawTerm::Target(target) => put_target(target, out),
-        RawTerm::Paren(a) => {
-            out.put(b"(paren")?;
-            put_operand(a, out)
-        }
-        RawTerm::Unary(op, a) => {
-            out.put(unary_word(*op))?;
-            put_operand(a, out)
-        }
-        RawTerm::Cast(kind, a) => {
-            out.put(b"(")?;
-            out.put(kind_word(*kind))?;
-            put_operand(a, out)
-        }
+        RawTerm::Paren(a) => put_only(b"paren", a, out),
+        RawTerm::Unary(op, a) => put_only(unary_word(*op), a, out),
+        RawTerm::Cast(kind, a) => put_only(kind_word(*kind), a, out),
         RawTerm::Binary(op, a, b) => {
-            out.put(binary_word(*op))?;
-            put_expr(a.get(), out)?;
-            put_operand(b, out)
+            out.open(op.sign());
+            put_expr(a.get(), out);
+            put_last(b, out);
         }
         RawTerm::And(a, b) => {
-            out.put(b"(&&")?;
-            put_expr(a.get(), out)?;
-            put_operand(b, out)
+            out.open(b"&&");
+            put_expr(a.get(), out);
+            put_last(b, out);
         }
         RawTerm::Or(a, b) => {
-            out.put(b"(||")?;
-            put_expr(a.get(), out)?;
-            put_operand(b, out)
+            out.open(b"||");
+            put_expr(a.get(), out);
+            put_last(b, out);
         }
         RawTerm::Cond(test, a, b) => {
-            out.put(b"(?")?;
-            put_expr(test.get(), out)?;
-            put_expr(a.get(), out)?;
-            put_operand(b, out)
+            out.open(b"?");
+            put_expr(test.get(), out);
+            put_expr(a.get(), out);
+            put_last(b, out);
         }
     }
+}
+
+#[cycle(put_expr)]
+fn put_only(word: &[u8], expr: &Boxed<RawExpr<'_>>, out: &mut Shown) {
+    out.open(word);
+    put_expr(expr.get(), out);
+    out.close();
 }
 
 /// The last operand of a form, and the bracket that closes the form.
 #[cycle(put_expr)]
-fn put_operand(expr: &Boxed<RawExpr<'_>>, out: &mut Shown) -> Result<(), OutOfMemory> {
-    put_expr(expr.get(), out)?;
-    out.put(b")")
+fn put_last(expr: &Boxed<RawExpr<'_>>, out: &mut Shown) {
+    put_expr(expr.get(), out);
+    out.close();
 }
 
 /// A name, or an element in brackets.
 #[cycle(put_expr)]
-pub(super) fn put_target(target: &RawTarget<'_>, out: &mut Shown) -> Result<(), OutOfMemory> {
+pub(super) fn put_target(target: &RawTarget<'_>, out: &mut Shown) {
     if target.subs.as_slice().is_empty() {
-        return out.name(&target.name);
+        out.name(&target.name);
+    } else {
+        out.open(b"");
+        out.name(&target.name);
+        put_exprs(target.subs.as_slice(), out);
+        out.close();
     }
-    out.put(b"(")?;
-    out.name(&target.name)?;
-    put_exprs(target.subs.as_slice(), out)?;
-    out.put(b")")
 }
 
 #[cycle(put_expr)]
-pub(super) fn put_exprs(exprs: &[RawExpr<'_>], out: &mut Shown) -> Result<(), OutOfMemory> {
+pub(super) fn put_exprs(exprs: &[RawExpr<'_>], out: &mut Shown) {
     for expr in exprs {
-        put_expr(expr, out)?;
+        put_expr(expr, out);
     }
-    Ok(())
 }

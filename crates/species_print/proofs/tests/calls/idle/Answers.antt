@@ -1,9 +1,9 @@
 use Rattle.std.proofs.Common.{ap, ◌∙◌, ◌++◌, ◌∷◌, []}
 use Rattle.species_ast.specs.declared.tree.Stmt.TheVariants as stmt
 use Rattle.species_print.proofs.NamedLaws.{one_named}
-use Rattle.species_print.proofs.tests.idle.Goals as goal
+use Rattle.species_print.proofs.tests.calls.idle.Goals as goal
 
 pub returns : goal.returns
 returns c = λ u.
-    one_named u c.in_ok-head.head c.push.new.self
-    (c.in_ok-push.ensures.ok ∙ ap (λ x. x ++ stmt.For c.in_ok-head.head ∷ []) c.new-all.ensures) (c.in_ok-head.ensures u)
+    one_named u c.head c.push.new.self
+    (c.in_ok-push.ensures.ok ∙ ap (λ x. x ++ stmt.For c.head ∷ []) c.new-all.ensures) (c.idle_loop-head.ensures u)
