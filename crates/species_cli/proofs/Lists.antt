@@ -1,13 +1,6 @@
--- Lists of known length.
-use Rattle.std.proofs.Common.{◌≡◌, ◌∙◌, ◌++◌, append_assoc, ap, sym, arith, ℕ, ◌≤◌, List, [], ◌∷◌, length, get_or}
+-- Text that was added in pieces.
+use Rattle.std.proofs.Common.{◌≡◌, ◌∙◌, ◌++◌, append_assoc, ap, ℕ, List}
 
-pub two_items : {X : Type 0} (xs : List X) (x : X) → 2 ≤ length xs → length xs ≤ 2 → x ≡ get_or xs 1 x → xs ≡ get_or xs 0 x ∷ x ∷ []
-two_items [] x h k e = absurd (omega (arith, h))
-two_items (a ∷ []) x h k e = absurd (omega (arith, h))
-two_items (a ∷ b ∷ []) x h k e = ap (λ y. a ∷ y ∷ []) (sym e)
-two_items (a ∷ b ∷ c ∷ more) x h k e = absurd (omega (arith, k))
-
--- text that was added in pieces
 pub then_two : (o s t a b : List ℕ) → s ≡ o ++ a → t ≡ s ++ b → t ≡ o ++ (a ++ b)
 then_two o s t a b h k = k ∙ ap (λ x. x ++ b) h ∙ append_assoc o a b
 

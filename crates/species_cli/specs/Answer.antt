@@ -1,18 +1,19 @@
 -- What the top call answers: the words that it takes, the limit of its input, and what it writes with
 -- each status.
-use Rattle.std.specs.Prelude.{◌≡◌, ◌⊎◌, ℕ, ◌≤◌, ◌<◌, List, [], ◌∷◌, Option, length, codes, string_bytes, String}
+use Rattle.std.specs.Prelude.{◌≡◌, ◌⊎◌, ℕ, ◌≤◌, ◌<◌, List, Option, length, codes, String}
 use Rattle.std.specs.declared.alloc.Global.{Global}
 use Rattle.species_ast.specs.Limits.{most_bytes}
 use Rattle.species_io.specs.Told.{then_bytes, TookPart}
 use Rattle.species_reference.specs.OneLoop.{OneLoop, unit_of, loop_of}
+use Rattle.species_words.specs.CommandLines.{IsCommandLine}
+use Rattle.species_words.specs.declared.Command.TheVariants as command
 use Rattle.species_cli.specs.Statuses.{status_refused, status_usage, status_read_fault}
 use Rattle.species_cli.specs.OneLoopText.{IsOneLoopText}
 use Rattle.species_cli.specs.Table.{table_of, IsTrueTable}
 
--- The words are the program's name, whatever it is, and `arcs`.
+-- The words are a lawful command line of a command that is built. Today `arcs` alone is built.
 abbrev pub IsArcs : List (String Global) → Type 0
-IsArcs words = (program : String Global) × (command : String Global)
-    × (words ≡ program ∷ command ∷ []) × (string_bytes command ≡ codes "arcs")
+IsArcs words = IsCommandLine words command.Arcs
 
 -- the bytes are the text of no one-loop program
 abbrev pub IsNoOneLoop : List ℕ → Type 0

@@ -4,7 +4,6 @@
 mod one_loop;
 mod table;
 mod top;
-mod words;
 
 pub use top::species;
 

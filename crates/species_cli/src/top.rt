@@ -1,5 +1,5 @@
 //! The call that the program makes.
-ghost use Rattle.std.specs.Prelude.{◌≡◌, ◌≢◌, ◌⊎◌, ◌≤◌, ◌<◌, ◌+◌, ℕ, List, Some, length};
+ghost use Rattle.std.specs.Prelude.{◌≡◌, ◌≢◌, ◌⊎◌, ◌≤◌, ◌<◌, ◌+◌, ◌↔◌, ℕ, List, Some, length, IsTrue};
 ghost use Rattle.species_ast.specs.Limits.{most_bytes};
 ghost use Rattle.species_io.specs.Told.{Rose, then_bytes, AtEnd, GaveAtMost, TookPart};
 ghost use Rattle.species_reference.specs.OneLoop.{OneLoop};
@@ -9,9 +9,9 @@ ghost use Rattle.species_cli.specs.Answer.{IsArcs, IsAnswered, IsNoted, IsPartly
 
 use crate::one_loop::{ReadRefusal, read_one_loop};
 use crate::table::table;
-use crate::words::read_words;
 use species_ast::MOST_BYTES;
 use species_io::{ReadAnswer, Sink, Source, read_whole, write_all};
+use species_words::{Command, read_words};
 use std::alloc::Global;
 
 const ANSWERED: u8 = 0;
@@ -25,6 +25,13 @@ const READ_FAULT: u8 = 4;
 const WRITE_FAULT: u8 = 5;
 
 const MEMORY: u8 = 6;
+
+/// Whether the words ask for the one command that is built.
+fn is_arcs(words: &[String]) -> bool
+    ensures { IsTrue result ↔ IsArcs words.now }
+{
+    read_words(words) == Ok(Command::Arcs)
+}
 
 /// The status, or that of a fault where its line could not be written.
 fn say<N: Sink>(notes: &mut N, line: &[u8], status: u8) -> u8
@@ -103,7 +110,7 @@ pub fn species<S: Source, K: Sink, N: Sink>(
         → (Rose (S.faults input.old) (S.faults input.new) → ⊥) → (Rose (N.faults notes.old) (N.faults notes.new) → ⊥)
         → (result ≡ status_refused) ⊎ (result ≡ status_memory) }
 {
-    if read_words(words).is_err() {
+    if !is_arcs(words) {
         return say(
             notes,
             b"usage: species arcs|annotate|compile|check|run [--trace]|drill --nests N --from F\n",
