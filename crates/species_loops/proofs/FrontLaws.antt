@@ -79,6 +79,24 @@ no_front first size n = go (nat_le n 0) (take_none n)
 pub none_first : (first size : ℕ) (front : List Bounds) → keeps_out first size 0 front ≡ true
 none_first first size front = let least : nat_le 0 (length front) ≡ true = grind (arith, nat_tests) in rw least refl
 
+names_nothing : (is : List ℕ) → names_band 0 0 is ≡ false
+names_nothing [] = refl
+names_nothing (i ∷ is) =
+    let none : is_of_band 0 0 i ≡ false = grind (arith, nat_tests) in
+    ap (λ b. b || list_any (is_of_band 0 0) is) none ∙ names_nothing is
+
+-- a band of no loop: their number alone is tested
+pub few_there : (n : ℕ) (front : List Bounds) → keeps_out 0 0 n front ≡ false → length front < n
+few_there n front h = go (nat_le n (length front)) refl (ap (λ b. nat_le n (length front) && not b) (sym (names_nothing (named_in (take n front)))) ∙ h)
+  where
+    go : (b : Bool) → nat_le n (length front) ≡ b → (b && true) ≡ false → length front < n
+    go true at e = absurd (cc e)
+    go false at e = grind (arith, nat_tests, at)
+
+pub few : (many : Bool) (front : List Bounds) → many ≡ keeps_out 0 0 9 front → not many ≡ true → length front < 2147483648
+few true front e h = absurd (cc h)
+few false front e h = let less : length front < 9 = few_there 9 front (sym e) in omega (arith, less)
+
 -- ---- bands
 
 any_less : (p q : ℕ → Bool) (xs : List ℕ) → ((i : ℕ) → q i ≡ true → p i ≡ true) → list_any q xs ≡ true → list_any p xs ≡ true

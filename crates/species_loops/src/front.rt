@@ -9,9 +9,9 @@ use species_ast::{Expr, Loop, Stmt};
 
 /// The iterators of so many loops from a level on.
 #[derive(Clone, Copy)]
-struct Band {
-    first: u32,
-    size: u32,
+pub(crate) struct Band {
+    pub(crate) first: u32,
+    pub(crate) size: u32,
 }
 
 fn is_of_band(band: Band, level: u32) -> bool
@@ -77,7 +77,7 @@ fn either(a: bool, b: bool) -> bool
 
 /// Whether so many leading loops are there, and their bounds name no iterator of the band.
 #[cycle(keeps)]
-fn keeps_out(head: &Loop, count: u32, band: Band) -> bool
+pub(crate) fn keeps_out(head: &Loop, count: u32, band: Band) -> bool
     ensures { result ≡ keeps_out band.first band.size count (front_of head.now) }
 {
     if count == 0 {

@@ -16,3 +16,6 @@ pub use header::{Header, bounds_fit, range_of};
 pub use magnitude::passes_bound;
 pub use path::Path;
 pub use weigh::weight;
+
+#[cfg(test)]
+mod tests;
