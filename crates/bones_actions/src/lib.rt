@@ -4,6 +4,7 @@
 //! next is told. Nothing is kept of it in between.
 #![tactic(auto)]
 
+mod arrays;
 mod expressions;
 mod frame;
 mod kinds;
@@ -13,6 +14,7 @@ mod places;
 mod statements;
 mod tape;
 
+pub use arrays::apply;
 pub use frame::Frame;
 pub use next::action_at;
 

@@ -176,7 +176,7 @@ module _ (join : Joins) where
 -- ---- the law
 
 pub joined_loops_run : JoinedLoopsRun
-joined_loops_run join trades gathers u d one two joined f g h first mid last joins is sound_one sound_two sound stays_one stays_two run_one run_two apart =
+joined_loops_run join trades gathers u d one two joined f g h first mid last joins is values sound_one sound_two sound stays_one stays_two run_one run_two apart =
     let w = source_context u in
     let takes = (gathers joined.at).takes in
     let a = nest_at d one in
@@ -185,7 +185,6 @@ joined_loops_run join trades gathers u d one two joined f g h first mid last joi
     let ran_one = nest_ran join w d one f first g mid sound_one stays_one.locals run_one in
     let ran_two = nest_ran join w d two f mid h last sound_two stays_two.locals (ap (λ k. run join (loop_of w two.loop two.at k) mid) (sym ran_one.frame) ∙ run_two) in
     let fs = frames w a.loops f in
-    let same_two = same_frames w a.loops b.loops is.equal f fs ran_one.headers in
     let same_joined = same_frames w a.loops c.loops is.headers f fs ran_one.headers in
     let ps = source_iterations w a fs in
     let qs = source_iterations w b fs in
@@ -193,9 +192,9 @@ joined_loops_run join trades gathers u d one two joined f g h first mid last joi
     let bt = c.at ++ (0 + length is.front) ∷ [] in
     let rs = map (does_scope w is.front c.at 0) fs in
     let ts = map (does_scope w b.body bt 0) fs in
-    let runs_two : run_all join qs mid ≡ Some last = ap (λ l. run_all join (source_iterations w b l) mid) same_two.1 ∙ ran_two.arrays in
+    let runs_two : run_all join qs mid ≡ Some last = ap (λ l. run_all join (source_iterations w b l) mid) values ∙ ran_two.arrays in
     let own_two : running_traces join w d (running_of two g mid) ≡ traces join qs mid =
-    ap (λ k. running_traces join w d (running_of two k mid)) ran_one.frame ∙ ran_two.own ∙ ap (λ l. traces join (source_iterations w b l) mid) (sym same_two.1) in
+    ap (λ k. running_traces join w d (running_of two k mid)) ran_one.frame ∙ ran_two.own ∙ ap (λ l. traces join (source_iterations w b l) mid) (sym values) in
     let lengths : length ps ≡ length qs = length-map fs (does_scope w a.body a.at 0) ∙ sym (length-map fs (does_scope w b.body b.at 0)) in
     let played = joined_same join trades ps qs rs ts first mid last (all_fronts takes w is.front a.body front a.at c.at fs) (all_placed w b.body b.at bt fs) lengths
     ran_one.arrays runs_two (subst IsApart (λ i. pairs (ran_one.own i) (own_two i)) apart) in
@@ -209,9 +208,12 @@ joined_loops_run join trades gathers u d one two joined f g h first mid last joi
     let ends : run join (loop_of w joined.loop joined.at f) first ≡ Ended f last =
     ap (λ t. run join t first) (nest_is w d joined.loop joined.at f)
     ∙ band_ends join w c.loops (does_scope w c.body c.at 0) f.locals (keeps_frames w c.body f sound.fits locals c.at) f refl fs first last same_joined.0 can.runs in
-    let ran = nest_ran join w d joined f first f last sound locals ends in
-    record {
-      ends = ends;
-      orderly = record { joins = joins; locals = locals; adds = adds; apart = subst IsApart (sym ran.own) can.apart };
-      played = subst (λ l. CanBePlayed join l first last) (sym (same_iterations takes w refl c (frames w c.loops f) locals adds)) can;
-    }
+    let ran = nest_ran join w d joined f first f last sound locals ends in (
+      ran_one.frame,
+      ran_two.frame,
+      record {
+        ends = ends;
+        orderly = record { joins = joins; locals = locals; adds = adds; apart = subst IsApart (sym ran.own) can.apart };
+        played = subst (λ l. CanBePlayed join l first last) (sym (same_iterations takes w refl c (frames w c.loops f) locals adds)) can;
+      },
+    )

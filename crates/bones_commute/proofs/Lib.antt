@@ -1,6 +1,7 @@
 mod Apart
 mod ApartBack
 mod BareLaws
+mod BothLaws
 mod CountLaws
 mod Elements
 mod Even
@@ -11,6 +12,7 @@ mod JoinedPlaces
 mod JoinedTraces
 mod NestPlays
 mod OrderlyExample
+mod OrderLaws
 mod Orders
 mod Past
 mod PlayExamples

@@ -5,6 +5,7 @@ use Rattle.std.specs.Prelude.{slice_get, slice_set, if◌then◌else◌}
 use Rattle.species_ast.specs.Accesses.{Joins, Cells, Tree}
 use Rattle.bones_meaning.specs.Plays.{Turn, State, not_begun, start, step_of}
 use Rattle.bones_commute.specs.Scripts.{Act, Scripted, script_of, nth, done_at, Follows, IsScripted, trees, Complete}
+use Rattle.bones_commute.specs.Orders.{count_of, rank_times, in_order}
 use Rattle.bones_commute.specs.ScriptsOfRuns.{then_state, plays, scripts, total}
 use Rattle.bones_commute.proofs.Elements.{neq}
 use Rattle.bones_commute.proofs.Past.{done_at_set, plain}
@@ -13,20 +14,6 @@ use Rattle.bones_commute.proofs.Steps.{found, moves, step_at, step_follows}
 use Rattle.bones_commute.proofs.NestPlays.{starts, by_action, scripted, parts, scripts_parts, trees_parts, NestRuns, law_plays}
 use Rattle.species_ast.specs.Evaluation.{Frame}
 use Rattle.bones_commute.specs.Trades.{Trades}
-
--- how often a rank stands in a list
-abbrev pub count_of : ℕ → List ℕ → ℕ
-count_of k [] = 0
-count_of k (j ∷ ks) = if nat_eq j k then suc (count_of k ks) else count_of k ks
-
--- one iteration after another, from iteration k on
-abbrev pub rank_times : ℕ → List Act → List ℕ → List ℕ
-rank_times k [] rest = rest
-rank_times k (a ∷ s) rest = k ∷ rank_times k s rest
-
-abbrev pub in_order : ℕ → List (List Act) → List ℕ
-in_order k [] = []
-in_order k (s ∷ ss) = rank_times k s (in_order (suc k) ss)
 
 get_below : {A : Type 0} (s : List A) (d : ℕ) → suc d ≤ length s → (a : A) × (slice_get s d ≡ Some a)
 get_below [] d h = let x : ⊥ = omega (arith, h) in absurd x

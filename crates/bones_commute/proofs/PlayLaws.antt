@@ -45,7 +45,7 @@ done_of (p ∷ ps) [] c = absurd c
 done_of (p ∷ ps) (t ∷ ts) c = ap (λ o. is_done o && all_done ps ts) c.0 ∙ done_of ps ts c.1
 
 -- a nest that can be played runs, and its scripts are apart
-nest_runs : (nest_join : Joins) (ps : List (Tree Frame)) (m mid : Cells) → CanBePlayed nest_join ps m mid → NestRuns nest_join ps m mid
+pub nest_runs : (nest_join : Joins) (ps : List (Tree Frame)) (m mid : Cells) → CanBePlayed nest_join ps m mid → NestRuns nest_join ps m mid
 nest_runs nest_join ps m mid o =
     (o.runs, subst (λ ss. AreApart ss) (sym (scripts_are nest_join ps m mid o.runs)) (are_apart (traces nest_join ps m) o.apart))
 

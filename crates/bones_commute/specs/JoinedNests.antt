@@ -41,15 +41,18 @@ AreBlocks bs = (bodies : List (List Stmt)) × (bs ≡ map stmt.Block bodies)
 abbrev pub StandsFor : List Stmt → List Stmt → Type 0
 StandsFor bs body = (bs ≡ stmt.Block body ∷ []) ⊎ ((bs ≡ body) × AreBlocks body)
 
--- Two nests with equal headers, and a third with these headers whose body is the first's, and one block with the second's.
+-- Two nests, and a third with the headers of the first whose body is the first's, and one block with the second's.
 pub record IsJoinedOf (one two joined : Nest) : Type 0 where
-  pub equal : SameHeaders one.loops two.loops
   pub headers : SameHeaders one.loops joined.loops
   pub front : List Stmt
   pub stands : StandsFor front one.body
   pub body : joined.body ≡ front ++ stmt.Block two.body ∷ []
 
 -- ---- nests where they stand
+
+-- the loops of both nests take the same values: rank by rank, their iterations begin with the same frames
+abbrev pub TakeSameValues : Context → Nest → Nest → Frame → Type 0
+TakeSameValues w one two f = frames w one.loops f ≡ frames w two.loops f
 
 -- what an iteration may not do, this body does not: it sets no local of the outside, and adds atomically only to arrays that take it
 pub record StaysInside (takes : Takes) (w : Context) (n : Nest) : Type 0 where
@@ -85,13 +88,14 @@ pub record JoinedEnds (join : Joins) (gathers : Gatherings) (w : Context) (d : �
   pub orderly : IsOrderlyRunning join gathers w d (running_of joined f first)
   pub played : CanBePlayed join (iterations (gathers joined.at).takes w (nest_at d joined) (frames w (nest_at d joined).loops f)) first last
 
--- The runs of two loops, one after the other, as the run of the joined loop: where the accesses that the iterations of the two
--- nests made are apart, those of one rank taken together.
+-- The runs of two loops that take the same values, one after the other, as the run of the joined loop: where the accesses that
+-- the iterations of the two nests made are apart, those of one rank taken together. Neither changes the frame.
 abbrev pub JoinedLoopsRun : Type 0
 JoinedLoopsRun = (join : Joins) → Trades join → (gathers : Gatherings) (u : Program) (d : ℕ) (one two joined : Stands) (f g h : Frame) (first mid last : Cells)
     → (gathers joined.at).join ≡ join → IsJoinedOf (nest_at d one) (nest_at d two) (nest_at d joined)
+    → TakeSameValues (source_context u) (nest_at d one) (nest_at d two) f
     → IsSound (source_context u) (nest_at d one) f → IsSound (source_context u) (nest_at d two) f → IsSound (source_context u) (nest_at d joined) f
     → StaysInside (gathers joined.at).takes (source_context u) (nest_at d one) → StaysInside (gathers joined.at).takes (source_context u) (nest_at d two)
     → run join (loop_of (source_context u) one.loop one.at f) first ≡ Ended g mid → run join (loop_of (source_context u) two.loop two.at g) mid ≡ Ended h last
     → IsApart (pairs (running_traces join (source_context u) d (running_of one f first)) (running_traces join (source_context u) d (running_of two g mid)))
-    → JoinedEnds join gathers (source_context u) d joined f first last
+    → (g ≡ f) × (h ≡ f) × JoinedEnds join gathers (source_context u) d joined f first last

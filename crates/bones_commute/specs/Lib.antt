@@ -2,6 +2,7 @@ pub mod Joined
 pub mod JoinedNests
 pub mod Laws
 pub mod Orderly
+pub mod Orders
 pub mod Scripts
 pub mod ScriptsOfRuns
 pub mod Sorts

@@ -4,6 +4,7 @@ ghost use Rattle.bones_commute.specs.Joined.{JoinedNestsRun};
 ghost use Rattle.bones_commute.specs.JoinedNests.{JoinedLoopsRun};
 ghost use Rattle.bones_commute.specs.Laws.{AllStartsFollow, AllStepsFollow, AllStatesGoOn, AllEndsAreEqual, AllSwap};
 ghost use Rattle.bones_commute.specs.Orderly.{OrderlyUnitsPlay, EveryInterleaving};
+ghost use Rattle.bones_commute.specs.Orders.{AnyOrderPlays, SourceOrderPlays};
 ghost use Rattle.bones_commute.specs.Sorts.{SortsGather, SortsTrade, SortsKeepValues, SortedUnitsPlay};
 
 /// Where the scripts of a nest's iterations fit its arrays and are apart, the nest begins in a state
@@ -24,6 +25,13 @@ pub fn law_end()
 pub fn law_plays()
     ensures any_join { OrderlyUnitsPlay }
     ensures of_sums { EveryInterleaving }
+{}
+
+/// Any order of the iterations' actions is a play, if none moves more often than it has actions. So the
+/// source's order is one, and it ends in the source's arrays.
+pub fn law_orders()
+    ensures any { AnyOrderPlays }
+    ensures source { SourceOrderPlays }
 {}
 
 /// Two nests, one after another, end where the nest of their pairs of iterations does, if the pairs

@@ -2,5 +2,9 @@
 #![tactic(auto)]
 
 mod laws;
+mod swap;
 
-pub use laws::{law_end, law_joined, law_joined_loops, law_plays, law_sorts, law_step, law_swap};
+pub use laws::{
+    law_end, law_joined, law_joined_loops, law_orders, law_plays, law_sorts, law_step, law_swap,
+};
+pub use swap::apply_both;
