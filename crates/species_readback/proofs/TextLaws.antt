@@ -4,9 +4,9 @@ use Rattle.std.proofs.lemmas.Bool.{and_parts, and_from, and_right, eqb-true, not
 use Rattle.std.proofs.lemmas.Slice.Eq.{bytes_eq-Decides}
 use Rattle.std.proofs.Math.Seq.{take-length}
 use Rattle.std.specs.Prelude.{◌&&◌, not, if◌then◌else◌, codes, bytes_eq, is_none}
-use Rattle.std.specs.List.{list_all}
+use Rattle.std.specs.List.{list_all, prefix_len}
 use Rattle.std.specs.Cmp.Lexicographic.{pointwise}
-use Rattle.species_ast.specs.Text.Characters.{is_blank, begins}
+use Rattle.species_ast.specs.Text.Characters.{is_blank, is_word, begins, run_of}
 use Rattle.species_ast.specs.Text.Comments.{plain_len, last_backslash}
 use Rattle.species_ast.specs.Text.Parts.{Part, is, part_len, parts_of, parts_end, offset_of}
 use Rattle.species_ast.specs.Text.Directives.{is_end_of_kernel}
@@ -140,17 +140,53 @@ take_drop zero xs = refl
 take_drop (suc n) [] = refl
 take_drop (suc n) (x ∷ xs) = ap (λ z. x ∷ z) (take_drop n xs)
 
+-- the first byte belongs to a word
+abbrev starts_word : List ℕ → Bool
+starts_word [] = false
+starts_word (b ∷ bytes) = is_word b
+
+-- how long the first part is
+abbrev front_len : List ℕ → ℕ
+front_len [] = 0
+front_len (b ∷ bytes) = part_len b bytes
+
+head_in : (p : ℕ → Bool) (x : ℕ) (bs : List ℕ) → p x ≡ true → run_of p (x ∷ bs) ≡ suc (run_of p bs)
+head_in p x bs g =
+    let one : 1 + prefix_len p bs ≡ suc (prefix_len p bs) = omega arith in
+    ap (λ c. length (take (if c then 1 + prefix_len p bs else 0) (x ∷ bs))) g ∙ ap (λ n. length (take n (x ∷ bs))) one
+
+-- a run goes on behind these bytes
+run_beyond : (p : ℕ → Bool) (w : List ℕ) (x : ℕ) (more : List ℕ) → list_all p w ≡ true → p x ≡ true → suc (length w) ≤ run_of p (w ++ (x ∷ more))
+run_beyond p [] x more h g = omega (arith, head_in p x more g)
+run_beyond p (y ∷ w) x more h g =
+    let k = and_parts (p y) (list_all p w) h in
+    omega (arith, head_in p y (w ++ (x ∷ more)) k.0, run_beyond p w x more k.1 g)
+
+-- behind the part `endkernel` no word goes on
+word_ends : (n b : ℕ) (bytes rest : List ℕ) → part_len b bytes ≡ suc n → drop n bytes ≡ rest → b ∷ bytes ≡ codes "endkernel" ++ rest → starts_word rest ≡ false
+word_ends n b bytes [] len behind text = refl
+word_ends n b bytes (x ∷ more) len behind text = go (is_word x) refl
+  where
+    go : (c : Bool) → is_word x ≡ c → is_word x ≡ false
+    go false e = e
+    go true e =
+        let long : suc n ≡ suc (run_of is_word (codes "ndkernel" ++ (x ∷ more))) = sym len ∙ ap front_len text in
+        let beyond : 9 ≤ run_of is_word (codes "ndkernel" ++ (x ∷ more)) = run_beyond is_word (codes "ndkernel") x more refl e in
+        let size : suc (length bytes) ≡ suc (suc (suc (suc (suc (suc (suc (suc (suc (suc (length more)))))))))) = ap length text in
+        let left : length (drop n bytes) ≡ suc (length more) = ap length behind in
+        let y : ⊥ = omega (arith, long, beyond, size, left, length-drop n bytes) in absurd y
+
 -- `endkernel` and what follows it, which begins with `[`
-bracket_behind : (at : ℕ) (p : Part) (rest : List ℕ) (ps : List Part) → ends_kernel (codes "endkernel" ++ rest) ≡ false → Scan at rest ps → is_end_of_kernel p ps ≡ false
-bracket_behind at p [] ps h s = cc
-bracket_behind at p (x ∷ rest) ps h s = go (nat_eq 91 x) refl
+bracket_behind : (at : ℕ) (p : Part) (rest : List ℕ) (ps : List Part) → ends_kernel (codes "endkernel" ++ rest) ≡ false → starts_word rest ≡ false → Scan at rest ps → is_end_of_kernel p ps ≡ false
+bracket_behind at p [] ps h w s = cc
+bracket_behind at p (x ∷ rest) ps h w s = go (nat_eq 91 x) refl
   where
     found : First at 91 rest ps → is_end_of_kernel p ps ≡ false
     found f = ap (is_end_of_kernel p) f.parts ∙ and_right (is p (codes "endkernel")) false refl
 
     go : (c : Bool) → nat_eq 91 x ≡ c → is_end_of_kernel p ps ≡ false
     go true e = found (first_part at (91 ∷ rest) ps (subst (λ z. Scan at (z ∷ rest) ps) (sym (eqb-true 91 x e)) s) refl refl)
-    go false e = let y : true ≡ false = sym (ap (λ c. not (c && true)) e) ∙ h in absurd cc
+    go false e = let y : true ≡ false = sym (and_from (not (is_word x)) (not (nat_eq 91 x)) (ap not w) (ap not e)) ∙ h in absurd cc
 
 no_end : (b : ℕ) (bytes : List ℕ) (ps : List Part) (f : First 16 b bytes ps) → ends_kernel (b ∷ bytes) ≡ false → is_end_of_kernel (part_at 16 b bytes) f.rest ≡ false
 no_end b bytes ps f h = go (is p (codes "endkernel")) refl
@@ -163,7 +199,8 @@ no_end b bytes ps f h = go (is p (codes "endkernel")) refl
     go true e =
         let word : take (suc f.n) (b ∷ bytes) ≡ codes "endkernel" = ap (λ m. take m (b ∷ bytes)) (sym f.len) ∙ (bytes_eq-Decides p.text (codes "endkernel")).0 e in
         let text : b ∷ bytes ≡ codes "endkernel" ++ drop f.n bytes = take_drop (suc f.n) (b ∷ bytes) ∙ ap (λ z. z ++ drop f.n bytes) word in
-        bracket_behind (16 + suc f.n) p (drop f.n bytes) f.rest (sym (ap ends_kernel text) ∙ h) f.scan
+        let stopped = word_ends f.n b bytes (drop f.n bytes) f.len refl text in
+        bracket_behind (16 + suc f.n) p (drop f.n bytes) f.rest (sym (ap ends_kernel text) ∙ h) stopped f.scan
 
 -- ---- the law
 

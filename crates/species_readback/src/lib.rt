@@ -28,8 +28,8 @@ pub fn law_marked_read_back()
     ensures { MarkedReadsBack }
 {}
 
-/// A text without comments, backslashes and line feeds, with no blank at its ends, that does not begin
-/// with the word `endkernel`, is a species text that can be written.
+/// A text without comments, backslashes and line feeds, with no blank at its ends, whose first word is
+/// not `endkernel`, or is followed by `[`, is a species text that can be written.
 pub fn law_line_text()
     ensures { TakesTexts }
 {}
