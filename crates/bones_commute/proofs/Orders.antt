@@ -125,7 +125,7 @@ count_below : (ss : List (List Act)) (b j : ℕ) → j < b → count_of j (in_or
 count_below [] b j h = refl
 count_below (s ∷ ss) b j h = other_rank j b s (in_order (suc b) ss) (λ e. let x : ⊥ = omega (arith, e, h) in x) ∙ count_below ss (suc b) j (omega (arith, h))
 
-count_in : (ss : List (List Act)) (b k : ℕ) → count_of (b + k) (in_order b ss) ≡ length (nth ss k)
+pub count_in : (ss : List (List Act)) (b k : ℕ) → count_of (b + k) (in_order b ss) ≡ length (nth ss k)
 count_in [] b zero = refl
 count_in [] b (suc k) = refl
 count_in (s ∷ ss) b zero =
@@ -141,24 +141,20 @@ length_times : (k : ℕ) (s : List Act) (rest : List ℕ) → length (rank_times
 length_times k [] rest = omega arith
 length_times k (a ∷ s) rest = omega (arith, length_times k s rest)
 
-length_order : (b : ℕ) (ss : List (List Act)) → length (in_order b ss) ≡ total ss
+pub length_order : (b : ℕ) (ss : List (List Act)) → length (in_order b ss) ≡ total ss
 length_order b [] = refl
 length_order b (s ∷ ss) = length_times b s (in_order (suc b) ss) ∙ ap (λ n. length s + n) (length_order (suc b) ss)
 
 module _ (join : Joins) (trades : Trades join) where
-  -- So the source's order is one, and it ends in the source's arrays.
-  pub law_source : (ps : List (Tree Frame)) (first last : Cells) → NestRuns join ps first last
-      → (st : State) × (plays join ps (in_order 0 (scripts join ps first)) (start ps first) ≡ Some st) × Complete ps st.turns × (st.cells ≡ last)
-  law_source ps first last o =
-      let all = scripts join ps first in
-      let ks = in_order 0 all in
-      let in_room : (k : ℕ) → count_of k ks ≤ length (nth all k) =
-      λ k. let e : 0 + k ≡ k = omega arith in omega (arith, ap (λ j. count_of j ks) e, count_in all 0 k) in
+  -- An order in which each iteration moves as often as its script is long leads to the end, and to the last arrays.
+  pub law_full : (ps : List (Tree Frame)) (first last : Cells) (ks : List ℕ) → NestRuns join ps first last → ((k : ℕ) → count_of k ks ≤ length (nth (scripts join ps first) k))
+      → length ks ≡ total (scripts join ps first) → (st : State) × (plays join ps ks (start ps first) ≡ Some st) × Complete ps st.turns × (st.cells ≡ last)
+  law_full ps first last ks o in_room full =
       let w = law_orders join trades ps first last ks o in_room in
       let p = law_plays join trades ps first last ks w.0 o w.1 in
       let more = p.goes_on in
       let longer = (law_plays join trades ps first last (ks ++ more.0) more.1 o more.2).no_longer in
-      let none : more.0 ≡ [] = nothing more.0 (omega (arith, longer, length-append ks more.0, length_order 0 all)) in
+      let none : more.0 ≡ [] = nothing more.0 (omega (arith, longer, length-append ks more.0, full)) in
       let same : w.0 ≡ more.1 = some_same (sym w.1 ∙ ap (λ l. (plays join) ps l (start ps first)) (sym (append-nil ks) ∙ ap (λ l. ks ++ l) (sym none)) ∙ more.2) in
       let c = subst (λ st. Complete ps st.turns) (sym same) more.3 in
       (w.0, w.1, c, (p.ends c).0)
@@ -169,3 +165,12 @@ module _ (join : Joins) (trades : Trades join) where
 
       some_same : {A : Type 0} {x y : A} → Some x ≡ Some y → x ≡ y
       some_same e = cc
+
+  -- So the source's order is one, and it ends in the source's arrays.
+  pub law_source : (ps : List (Tree Frame)) (first last : Cells) → NestRuns join ps first last
+      → (st : State) × (plays join ps (in_order 0 (scripts join ps first)) (start ps first) ≡ Some st) × Complete ps st.turns × (st.cells ≡ last)
+  law_source ps first last o =
+      let all = scripts join ps first in
+      let in_room : (k : ℕ) → count_of k (in_order 0 all) ≤ length (nth all k) =
+      λ k. let e : 0 + k ≡ k = omega arith in omega (arith, ap (λ j. count_of j (in_order 0 all)) e, count_in all 0 k) in
+      law_full ps first last (in_order 0 all) o in_room (length_order 0 all)

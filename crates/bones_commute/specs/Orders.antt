@@ -1,11 +1,15 @@
 -- Orders in which the iterations of a nest do their actions, as lists of ranks.
-use Rattle.std.specs.Prelude.{◌≡◌, ℕ, suc, ◌≤◌, List, [], ◌∷◌, length, Some, nat_eq, if◌then◌else◌}
+use Rattle.std.specs.Prelude.{◌≡◌, ℕ, suc, ◌≤◌, List, [], ◌∷◌, ◌++◌, length, Some, nat_eq, if◌then◌else◌}
 use Rattle.species_ast.specs.Accesses.{Joins, Cells, Tree}
 use Rattle.species_ast.specs.Evaluation.{Frame}
+use Rattle.species_nests.specs.Meetings.{IsApart}
+use Rattle.species_nests.specs.Nests.{run_all, traces}
 use Rattle.bones_meaning.specs.Plays.{State, start}
+use Rattle.bones_commute.specs.Joined.{both, pairs}
 use Rattle.bones_commute.specs.Orderly.{CanBePlayed}
 use Rattle.bones_commute.specs.Scripts.{Act, nth, Complete}
 use Rattle.bones_commute.specs.ScriptsOfRuns.{plays, scripts}
+use Rattle.bones_commute.specs.Trades.{Trades}
 
 -- how often a rank stands in a list
 abbrev pub count_of : ℕ → List ℕ → ℕ
@@ -31,3 +35,11 @@ AnyOrderPlays = (join : Joins) (ps : List (Tree Frame)) (first last : Cells) (ks
 abbrev pub SourceOrderPlays : Type 0
 SourceOrderPlays = (join : Joins) (ps : List (Tree Frame)) (first last : Cells) → CanBePlayed join ps first last
     → (st : State) × (plays join ps (in_order 0 (scripts join ps first)) (start ps first) ≡ Some st) × Complete ps st.turns × (st.cells ≡ last)
+
+-- Where the pairs of iterations of two nests are apart, the source's order of the one nest and then of the other is a play of the
+-- joined nest, to its end and to the arrays in which the two nests end.
+abbrev pub OrderOfTwoPlays : Type 0
+OrderOfTwoPlays = (join : Joins) → Trades join → (ps qs : List (Tree Frame)) (first mid last : Cells) → length ps ≡ length qs → run_all join ps first ≡ Some mid → run_all join qs mid ≡ Some last
+    → IsApart (pairs (traces join ps first) (traces join qs mid))
+    → (st : State) × (plays join (both ps qs) (in_order 0 (scripts join ps first) ++ in_order 0 (scripts join qs mid)) (start (both ps qs) first) ≡ Some st)
+    × Complete (both ps qs) st.turns × (st.cells ≡ last)

@@ -4,7 +4,7 @@ ghost use Rattle.bones_commute.specs.Joined.{JoinedNestsRun};
 ghost use Rattle.bones_commute.specs.JoinedNests.{JoinedLoopsRun};
 ghost use Rattle.bones_commute.specs.Laws.{AllStartsFollow, AllStepsFollow, AllStatesGoOn, AllEndsAreEqual, AllSwap};
 ghost use Rattle.bones_commute.specs.Orderly.{OrderlyUnitsPlay, EveryInterleaving};
-ghost use Rattle.bones_commute.specs.Orders.{AnyOrderPlays, SourceOrderPlays};
+ghost use Rattle.bones_commute.specs.Orders.{AnyOrderPlays, SourceOrderPlays, OrderOfTwoPlays};
 ghost use Rattle.bones_commute.specs.Sorts.{SortsGather, SortsTrade, SortsKeepValues, SortedUnitsPlay};
 
 /// Where the scripts of a nest's iterations fit its arrays and are apart, the nest begins in a state
@@ -28,10 +28,12 @@ pub fn law_plays()
 {}
 
 /// Any order of the iterations' actions is a play, if none moves more often than it has actions. So the
-/// source's order is one, and it ends in the source's arrays.
+/// source's order is one, and so is that of two nests for the joined nest; both end in the source's
+/// arrays.
 pub fn law_orders()
     ensures any { AnyOrderPlays }
     ensures source { SourceOrderPlays }
+    ensures two { OrderOfTwoPlays }
 {}
 
 /// Two nests, one after another, end where the nest of their pairs of iterations does, if the pairs
