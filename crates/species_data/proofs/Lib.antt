@@ -1,0 +1,9 @@
+mod ArrayLaws
+mod BackLaws
+mod ElementLaws
+mod LineLaws
+mod NameLemmas
+mod ReadLemmas
+mod RowLemmas
+mod WordLemmas
+mod WriteLemmas
