@@ -4,7 +4,7 @@ ghost use Rattle.std.specs.Prelude.{◌≡◌, ◌+◌, ◌<◌, ◌∷◌, [], 
 ghost use Rattle.species_ast.specs.declared.tree.Loop.{out-Loop};
 ghost use Rattle.species_ast.specs.Scope.Hulls as hulls;
 ghost use Rattle.species_ast.specs.Scope.Loops.{Nesting, no_loops, outermost_in};
-ghost use Rattle.species_ast.specs.Scope.References.{Where, elements_of, no_adds, stmt_references, list_references, loop_references, reference_count};
+ghost use Rattle.species_ast.specs.Scope.References.{Where, elements_of, no_adds, stmt_references, list_references, loop_references, unless_empty, reference_count};
 ghost use Rattle.species_ast.specs.Scope.WellMade.{made, list_keeps};
 ghost use Rattle.species_ast.specs.Scope.Conditions.{refused_references};
 ghost use Rattle.species_names.specs.Kept.{kept};
@@ -177,7 +177,7 @@ fn is_empty(path: &[LoopRange]) -> bool
     false
 }
 
-/// Counts the references of an inner loop. What stands in it is left out where its hull is empty.
+/// Counts the references of an inner loop.
 #[cycle(count)]
 fn count_loop(
     alloc: Global,
@@ -191,10 +191,27 @@ fn count_loop(
 {
     let depth = path.len();
     enter(alloc, head, path)?;
-    if !is_empty(path.as_slice()) {
-        count_list(alloc, head.body.as_slice(), path, count)?;
-    }
+    count_inside(alloc, head.body.as_slice(), path, count)?;
     path.leave(depth);
+    Ok(())
+}
+
+/// Counts the references of what stands in an inner loop, but where the hull is empty.
+#[cycle(count)]
+fn count_inside(
+    alloc: Global,
+    all: &[Stmt],
+    path: &mut Path,
+    count: &mut Count,
+) -> Result<(), OutOfMemory>
+    ensures found { OnOk result ((n : Nesting) (g : Where) → Reached path.old n g → list_keeps (map made all.now) n ≡ true
+        → count.new.references ≡ count.old.references + length (unless_empty 0 path.old (list_references (map (stmt_references no_adds) all.now) g 0 0))) }
+    ensures same { OnOk result (path.new ≡ path.old) }
+{
+    if is_empty(path.as_slice()) {
+        return Ok(());
+    }
+    count_list(alloc, all, path, count)?;
     Ok(())
 }
 
