@@ -1,9 +1,9 @@
 -- How many references statements and loops have.
-use Rattle.std.proofs.Common.{◌≡◌, ◌∙◌, refl, sym, ap, subst, arith, ℕ, zero, suc, ◌+◌, ◌-◌, ◌<◌, List, [], ◌∷◌, ◌++◌, map, take, length, get_or, Bool, true, false, ◌&&◌, not, nat_le, if◌then◌else◌, Option, Some, None, length-append, length-map}
+use Rattle.std.proofs.Common.{◌≡◌, ◌∙◌, refl, sym, ap, subst, arith, ℕ, zero, suc, ◌+◌, ◌-◌, ◌<◌, List, [], ◌∷◌, ◌++◌, map, take, length, get_or, Bool, true, false, ◌&&◌, not, nat_le, if◌then◌else◌, Option, Some, None, length-append}
 use Rattle.std.specs.List.{list_all}
 use Rattle.std.proofs.lemmas.Bool.{and_parts}
 use Rattle.std.proofs.lemmas.Bool.Decides.{nat_tests}
-use Rattle.std.proofs.lemmas.List.{map-append, take_more}
+use Rattle.std.proofs.lemmas.List.{length-map, map-append, take_more}
 use Rattle.species_ast.specs.declared.tree.Binary.{Binary}
 use Rattle.species_ast.specs.declared.tree.Expr.{Expr}
 use Rattle.species_ast.specs.declared.tree.Expr.TheVariants as expr
@@ -98,7 +98,7 @@ length-numbers n (suc count) = ap suc (length-numbers (suc n) count)
 
 expr_length : (e : Expr) (g : Where) (n : ℕ) → length ((elements_of e).references g n) ≡ (elements_of e).count
 expr_length e g n =
-    sym (length-map ((elements_of e).references g n) (λ r. r.number)) ∙ ap length (elements_of-in_order e g n) ∙ length-numbers n (elements_of e).count
+    sym (length-map ((elements_of e).references g n) (λ (r : Reference). r.number)) ∙ ap length (elements_of-in_order e g n) ∙ length-numbers n (elements_of e).count
 
 subs_length : (es : List Expr) (g : Where) (n : ℕ) → length ((subscripts es).references g n) ≡ elements_in es
 subs_length [] g n = refl
@@ -213,7 +213,7 @@ list_references-snoc (q ∷ rs) r g k =
     assoc (x ∷ xs) ys zs = ap (λ l. x ∷ l) (assoc xs ys zs)
 
 -- how many statements before the last of so many
-pub before : (all : List Stmt) (i : ℕ) → ℕ
+abbrev pub before : (all : List Stmt) (i : ℕ) → ℕ
 before all i = length (map refers (take i all))
 
 pub listed_next : (all : List Stmt) (i : ℕ) (x : Stmt) (old now new : ℕ) (g : Where) (k : ℕ) → x ≡ get_or all i x → i < length all

@@ -12,7 +12,7 @@ use Rattle.species_ast.specs.Scope.Loops.{no_loops}
 use Rattle.species_ast.specs.Scope.Meanings.{Declared, occurrence}
 use Rattle.species_ast.specs.Scope.Refusals.{Refusal, Finding, first_in, or_later, refused_at, places_where}
 use Rattle.species_ast.specs.Scope.Statements.{LoopSite, Fragment, in_order, stmt_fragment}
-use Rattle.species_ast.specs.Scope.Programs.{ArraySite, Program, program_of, iterators_of, first_scope, arrays_of, globals_from}
+use Rattle.species_ast.specs.Scope.Programs.{Size, ArraySite, Program, program_of, iterators_of, first_scope, arrays_of, globals_from}
 use Rattle.species_ast.specs.Scope.Conditions.{is_static, is_good_step, refused_names, refused_forms, refused_limits, refused_references, refused_arrays, refused_loops, refusal_of, bad_step, not_static}
 use Rattle.species_ast.specs.Scope.WellMade.{made, list_keeps}
 use Rattle.species_ast.proofs.FirstRefusal.{reports_the_first}
@@ -56,7 +56,7 @@ whole_built u its h b body hh hb hs =
     let here : g.next.iterators ≡ its = globals-iterators 0 (flat_map arrays_of u.items) (first_scope its) in
     let found : b.found ≡ noted its None (g.names ++ (o ∷ f.notes.names)) =
     ap (λ (z : Builder). z.found) state
-    ∙ ap (λ i. noted i (noted its (noted its None g.names) (o ∷ [])) f.notes.names) here
+    ∙ ap (λ is. noted is (noted is (noted its None g.names) (o ∷ [])) f.notes.names) here
     ∙ sym (noted-append its (noted its None g.names) (o ∷ []) f.notes.names)
     ∙ sym (noted-append its None g.names (o ∷ f.notes.names)) in
     let forms : b.forms ≡ kept None (flat_map sizes_at g.arrays ++ flat_map forms_at f.notes.loops) =
@@ -87,40 +87,40 @@ pub of_names : (u : RawUnit) → (whole_of u (taken_in u)).found ≡ first_in (r
 of_names u = ap (noted (taken_in u) None) (same_names u (taken_in u) []) ∙ sym (names_found (program_of u))
 
 refused-append : (r : Refusal) (xs ys : List ℕ) → refused_at r (xs ++ ys) ≡ refused_at r xs ++ refused_at r ys
-refused-append r xs ys = map-append (λ p. record { refusal = r; place = p }) xs ys
+refused-append r xs ys = map-append (λ (p : ℕ). record { refusal = r; place = p }) xs ys
 
 sizes_refused : (arrays : List ArraySite)
-    → flat_map sizes_at arrays ≡ refused_at Refusal.NotStatic (flat_map (λ a. places_where (λ x. is_none x.number) (λ x. x.place) a.sizes) arrays)
+    → flat_map sizes_at arrays ≡ refused_at Refusal.NotStatic (flat_map (λ (a : ArraySite). places_where (λ (x : Size). is_none x.number) (λ (x : Size). x.place) a.sizes) arrays)
 sizes_refused [] = refl
 sizes_refused (a ∷ arrays) =
-    let first = refused_where Refusal.NotStatic (λ x. is_none x.number) (λ x. x.place) a.sizes in
+    let first = refused_where Refusal.NotStatic (λ (x : Size). is_none x.number) (λ (x : Size). x.place) a.sizes in
     let rest = sizes_refused arrays in
     (λ i. first i ++ rest i)
-    ∙ sym (refused-append Refusal.NotStatic (places_where (λ x. is_none x.number) (λ x. x.place) a.sizes) (flat_map (λ b. places_where (λ x. is_none x.number) (λ x. x.place) b.sizes) arrays))
+    ∙ sym (refused-append Refusal.NotStatic (places_where (λ (x : Size). is_none x.number) (λ (x : Size). x.place) a.sizes) (flat_map (λ (b : ArraySite). places_where (λ (x : Size). is_none x.number) (λ (x : Size). x.place) b.sizes) arrays))
 
-not_start : LoopSite → Bool
+abbrev not_start : LoopSite → Bool
 not_start x = not (is_static x.level (out-Loop x.loop).start)
 
-not_limit : LoopSite → Bool
+abbrev not_limit : LoopSite → Bool
 not_limit x = not (is_static x.level (out-Loop x.loop).limit)
 
-not_stepping : LoopSite → Bool
+abbrev not_stepping : LoopSite → Bool
 not_stepping x = not (x.one_variable && is_good_step (out-Loop x.loop).test x.step)
 
 forms_found : (p : Program) → kept None (forms_of p) ≡ first_in (refused_forms p)
 forms_found p =
-    let starts = places_where not_start (λ x. x.start) p.loops in
-    let limits = places_where not_limit (λ x. x.limit) p.loops in
-    let sizes = flat_map (λ a. places_where (λ x. is_none x.number) (λ x. x.place) a.sizes) p.arrays in
+    let starts = places_where not_start (λ (x : LoopSite). x.start) p.loops in
+    let limits = places_where not_limit (λ (x : LoopSite). x.limit) p.loops in
+    let sizes = flat_map (λ (a : ArraySite). places_where (λ (x : Size). is_none x.number) (λ (x : Size). x.place) a.sizes) p.arrays in
     let ns = refused_at Refusal.NotStatic starts in
     let nl = refused_at Refusal.NotStatic limits in
     let nz = refused_at Refusal.NotStatic sizes in
     let bs = refused_at Refusal.BadStep (bad_step p) in
     let at_step : LoopSite → List Finding = λ x. refused_if (not_stepping x) Refusal.BadStep x.place in
     let at_limit : LoopSite → List Finding = λ x. refused_if (not_limit x) Refusal.NotStatic x.limit ++ at_step x in
-    let a : (m : Option Finding) → kept m (flat_map at_step p.loops) ≡ kept m bs = λ m. ap (kept m) (refused_where Refusal.BadStep not_stepping (λ x. x.place) p.loops) in
-    let b : (m : Option Finding) → kept m (flat_map at_limit p.loops) ≡ kept m (nl ++ bs) = λ m. apart m Refusal.NotStatic not_limit (λ x. x.limit) at_step bs p.loops a in
-    let c : (m : Option Finding) → kept m (flat_map forms_at p.loops) ≡ kept m (ns ++ (nl ++ bs)) = λ m. apart m Refusal.NotStatic not_start (λ x. x.start) at_limit (nl ++ bs) p.loops b in
+    let a : (m : Option Finding) → kept m (flat_map at_step p.loops) ≡ kept m bs = λ m. ap (kept m) (refused_where Refusal.BadStep not_stepping (λ (x : LoopSite). x.place) p.loops) in
+    let b : (m : Option Finding) → kept m (flat_map at_limit p.loops) ≡ kept m (nl ++ bs) = λ m. apart m Refusal.NotStatic not_limit (λ (x : LoopSite). x.limit) at_step bs p.loops a in
+    let c : (m : Option Finding) → kept m (flat_map forms_at p.loops) ≡ kept m (ns ++ (nl ++ bs)) = λ m. apart m Refusal.NotStatic not_start (λ (x : LoopSite). x.start) at_limit (nl ++ bs) p.loops b in
     let whole : refused_forms p ≡ (ns ++ (nl ++ nz)) ++ bs =
     ap (λ l. l ++ bs) (refused-append Refusal.NotStatic starts (limits ++ sizes) ∙ ap (λ l. ns ++ l) (refused-append Refusal.NotStatic limits sizes)) in
     kept-append None (flat_map sizes_at p.arrays) (flat_map forms_at p.loops)

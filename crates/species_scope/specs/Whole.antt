@@ -27,7 +27,7 @@ heads_of u its =
     let b = h.builder in
     record h { builder = record b {
       place = scope_with u.function Meaning.Function b.place;
-      found = noted its b.found (occurrence Declared b.place u.function ∷ []);
+      found = noted b.place.iterators b.found (occurrence Declared b.place u.function ∷ []);
     } }
 
 -- what is found at the sizes of arrays and at the bounds and steps of loops
