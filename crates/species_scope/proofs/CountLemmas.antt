@@ -13,6 +13,7 @@ use Rattle.species_ast.specs.declared.tree.Stmt.{Stmt}
 use Rattle.species_ast.specs.declared.tree.Stmt.TheOpen.{Loop-F}
 use Rattle.species_ast.specs.declared.tree.Stmt.TheVariants as stmt
 use Rattle.species_ast.specs.declared.tree.Unary.{Unary}
+use Rattle.species_ast.specs.declared.tree.Value.{Value}
 use Rattle.species_ast.specs.Scope.Hulls.{Range, has_empty, range_of, passes_hull}
 use Rattle.species_ast.specs.Scope.Magnitudes.{passes_bound}
 use Rattle.species_ast.specs.Scope.Limits.{is_too_deep, is_too_far}
@@ -30,6 +31,15 @@ use Rattle.species_scope.specs.Referenced.{head_made, Reached, elements_in}
 
 pub count-Elem : (a : ℕ) (subs : List Expr) → (elements_of (expr.Elem a subs)).count ≡ elements_in subs + 1
 count-Elem a subs = let one : suc (elements_in subs) ≡ elements_in subs + 1 = omega arith in ap (λ (e : Elements). e.count) (elements_of-Elem a subs) ∙ one
+
+pub count-Literal : (v : Value) → (elements_of (expr.Literal v)).count ≡ 0
+count-Literal v = ap (λ (e : Elements). e.count) (para_expr-Literal elements_at v)
+
+pub count-Iter : (level : ℕ) → (elements_of (expr.Iter level)).count ≡ 0
+count-Iter level = ap (λ (e : Elements). e.count) (para_expr-Iter elements_at level)
+
+pub count-Local : (n : ℕ) → (elements_of (expr.Local n)).count ≡ 0
+count-Local n = ap (λ (e : Elements). e.count) (para_expr-Local elements_at n)
 
 pub count-Unary : (op : Unary) (a : Expr) → (elements_of (expr.Unary op a)).count ≡ (elements_of a).count
 count-Unary op a = ap (λ (e : Elements). e.count) (para_expr-Unary elements_at op a)
@@ -59,6 +69,13 @@ one_counted e e' a b old new is same get h =
     let here = ap (λ x. (elements_of x).count) is in
     let part = ap (λ x. (elements_of x).count) get in
     omega (arith, here, same, part, h)
+
+pub elem_counted : (e : Expr) (a : ℕ) (subs es : List Expr) (old mid new : ℕ) → e ≡ expr.Elem a subs → es ≡ subs
+    → mid ≡ old + elements_in es → new ≡ mid + 1 → new ≡ old + (elements_of e).count
+elem_counted e a subs es old mid new is get h k =
+    let whole = ap (λ x. (elements_of x).count) is ∙ count-Elem a subs in
+    let part = ap elements_in get in
+    omega (arith, whole, part, h, k)
 
 pub two_counted : (e e' a b a' b' : Expr) (old mid new : ℕ) → e ≡ e' → (elements_of e').count ≡ (elements_of a).count + (elements_of b).count
     → a' ≡ a → b' ≡ b → mid ≡ old + (elements_of a').count → new ≡ mid + (elements_of b').count → new ≡ old + (elements_of e).count
@@ -136,10 +153,10 @@ add_length place a subs value atomic g =
     ∙ ap (λ n. elements_in subs + suc (n + 1)) (expr_length value g (suc (subscripts subs).count))
     ∙ ap (λ n. elements_in subs + n) two
 
-pub assign_counted : (s : Stmt) (place a : ℕ) (subs es fs : List Expr) (value : Expr) (more old one two new : ℕ) (g : Where)
+pub assign_counted : (s : Stmt) (place a : ℕ) (subs es : List Expr) (value : Expr) (old one two new : ℕ) (g : Where)
     → s ≡ stmt.Assign place a subs value → es ≡ subs → one ≡ old + elements_in es → two ≡ one + (elements_of value).count → new ≡ two + 1
     → new ≡ old + length (refers s g 0)
-assign_counted s place a subs es fs value more old one two new g is get h k l =
+assign_counted s place a subs es value old one two new g is get h k l =
     let whole = ap (λ x. length (refers x g 0)) is ∙ assign_length place a subs value g in
     let part = ap elements_in get in
     omega (arith, whole, part, h, k, l)

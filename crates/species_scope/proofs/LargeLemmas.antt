@@ -1,5 +1,5 @@
 -- Outermost loops that have too many references.
-use Rattle.std.proofs.Common.{◌≡◌, ◌∙◌, refl, sym, ap, ℕ, ◌+◌, ◌<◌, List, [], ◌∷◌, ◌++◌, map, take, length, get_or, Option, nat_lt, append-nil}
+use Rattle.std.proofs.Common.{◌≡◌, ◌∙◌, refl, sym, ap, ℕ, ◌+◌, ◌<◌, List, [], ◌∷◌, ◌++◌, map, take, length, get_or, Bool, Option, nat_lt, append-nil}
 use Rattle.std.specs.List.{flat_map}
 use Rattle.std.proofs.lemmas.List.{map-append, take_more}
 use Rattle.std.proofs.lemmas.Grind.{flat_map-append}
@@ -14,7 +14,7 @@ use Rattle.species_ast.specs.Scope.References.{reference_count}
 use Rattle.species_ast.specs.Scope.Refusals.{Limit, Refusal, Finding}
 use Rattle.species_ast.specs.Scope.Conditions.{refused_references}
 use Rattle.species_ast.proofs.Paras.{beside, para_stmt-If, para_stmt-For, para_stmt-Block}
-use Rattle.species_names.specs.Kept.{kept}
+use Rattle.species_names.specs.Kept.{kept, refused_if}
 use Rattle.species_names.proofs.KeptLaws.{kept-append}
 use Rattle.species_names.proofs.JoinLaws.{refused_where}
 use Rattle.species_scope.specs.Referenced.{large_at, large_in}
@@ -50,6 +50,13 @@ pub two_large : (s : Stmt) (place : ℕ) (test : Expr) (body otherwise : List St
 two_large s place test body otherwise old mid new is h k =
     k ∙ ap (λ m. kept m (large_in (flat_map outermost_in otherwise))) h ∙ sym (large_in-append old (flat_map outermost_in body) (flat_map outermost_in otherwise))
     ∙ ap (λ l. kept old (large_in l)) (sym (in_if place test body otherwise) ∙ ap outermost_in (sym is))
+
+pub one_large : (s : Stmt) (l : Loop) (count place : ℕ) (large : Bool) (old new : Option Finding) → s ≡ stmt.For l → count ≡ reference_count l
+    → large ≡ nat_lt most_references count → place ≡ (out-Loop l).place → new ≡ kept old (refused_if large (Refusal.LimitPassed Limit.References) place)
+    → new ≡ kept old (large_in (outermost_in s))
+one_large s l count place large old new is counted test at h =
+    h ∙ (λ i. kept old (refused_if ((test ∙ ap (nat_lt most_references) counted) i) (Refusal.LimitPassed Limit.References) (at i)))
+    ∙ ap (kept old) (sym (append-nil (large_at l))) ∙ ap (λ l. kept old (large_in l)) (sym (in_for l) ∙ ap outermost_in (sym is))
 
 pub all_large : (u : Tree) (old : Option Finding) → kept old (large_in (flat_map outermost_in u.body)) ≡ kept old (refused_references u)
 all_large u old = ap (kept old) (refused_where (Refusal.LimitPassed Limit.References) (λ head. nat_lt most_references (reference_count head)) (λ head. (out-Loop head).place) (outermost_loops u))
