@@ -16,3 +16,18 @@ pub enum ProgramRefusal {
     #[error("out of memory")]
     Memory,
 }
+
+/// Why a program is not read from a source.
+#[derive(Clone, Copy, Debug, PartialEq, Eq, Error)]
+pub enum InputRefusal {
+    #[error("a read failed")]
+    ReadFault,
+    #[error("the input is longer than the limit")]
+    TooLong,
+    /// The bytes of the source are refused.
+    #[error("the program is refused")]
+    Program(ProgramRefusal),
+    /// Memory ran out.
+    #[error("out of memory")]
+    Memory,
+}

@@ -1,5 +1,6 @@
 //! Texts that are refused: each number and place is worked out by hand.
 use crate::{Limit, ProgramRefusal, ScopeRefusal, read_program};
+use std::alloc::{AllocError, Global};
 use std::test::Fail;
 
 #[test]
@@ -191,5 +192,28 @@ fn refuses_marks(rt: HostRuntime) -> Result<(), Fail> {
         let read = read_program(alloc, text.as_bytes());
         assert_eq!(rt; read.err(), Some(ProgramRefusal::Scope(refusal)), "{text}");
     }
+    Ok(())
+}
+
+/// A loop of so many additions, each of which is a read and a write.
+fn additions(alloc: Global, count: usize) -> Result<Vec<u8>, AllocError> {
+    let mut text = Vec::new(alloc);
+    text.extend_from_slice(b"int a[8]; void f(void) { for (int i = 0; i < 8; i++) {")?;
+    for _ in 0..count {
+        text.extend_from_slice(b" a[i] += 1;")?;
+    }
+    text.extend_from_slice(b" } }")?;
+    Ok(text)
+}
+
+#[test]
+fn counts_references(rt: HostRuntime) -> Result<(), Fail> {
+    let alloc = rt.alloc();
+    let most = additions(alloc, 256)?;
+    assert!(rt; read_program(alloc, most.as_slice()).is_ok());
+    let more = additions(alloc, 257)?;
+    let refusal = ScopeRefusal::Limit(Limit::References, 25);
+    let read = read_program(alloc, more.as_slice());
+    assert_eq!(rt; read.err(), Some(ProgramRefusal::Scope(refusal)));
     Ok(())
 }

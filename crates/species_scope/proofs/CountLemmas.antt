@@ -61,51 +61,57 @@ count-Cond c a b = ap (λ (e : Elements). e.count) (para_expr-Cond elements_at c
 
 -- of an expression that is known
 pub none_counted : (e e' : Expr) (old : ℕ) → e ≡ e' → (elements_of e').count ≡ 0 → old ≡ old + (elements_of e).count
-none_counted e e' old is zero_is = let here = ap (λ x. (elements_of x).count) is in omega (arith, here, zero_is)
+none_counted e e' old is zero_is = let here : (elements_of e).count ≡ (elements_of e').count = ap (λ (x : Expr). (elements_of x).count) is in omega (arith, here, zero_is)
 
 pub one_counted : (e e' a b : Expr) (old new : ℕ) → e ≡ e' → (elements_of e').count ≡ (elements_of a).count → b ≡ a
     → new ≡ old + (elements_of b).count → new ≡ old + (elements_of e).count
 one_counted e e' a b old new is same get h =
-    let here = ap (λ x. (elements_of x).count) is in
-    let part = ap (λ x. (elements_of x).count) get in
+    let here : (elements_of e).count ≡ (elements_of e').count = ap (λ (x : Expr). (elements_of x).count) is in
+    let part : (elements_of b).count ≡ (elements_of a).count = ap (λ (x : Expr). (elements_of x).count) get in
     omega (arith, here, same, part, h)
 
 pub elem_counted : (e : Expr) (a : ℕ) (subs es : List Expr) (old mid new : ℕ) → e ≡ expr.Elem a subs → es ≡ subs
     → mid ≡ old + elements_in es → new ≡ mid + 1 → new ≡ old + (elements_of e).count
 elem_counted e a subs es old mid new is get h k =
-    let whole = ap (λ x. (elements_of x).count) is ∙ count-Elem a subs in
-    let part = ap elements_in get in
+    let whole : (elements_of e).count ≡ elements_in subs + 1 = ap (λ (x : Expr). (elements_of x).count) is ∙ count-Elem a subs in
+    let part : elements_in es ≡ elements_in subs = ap elements_in get in
     omega (arith, whole, part, h, k)
 
 pub two_counted : (e e' a b a' b' : Expr) (old mid new : ℕ) → e ≡ e' → (elements_of e').count ≡ (elements_of a).count + (elements_of b).count
     → a' ≡ a → b' ≡ b → mid ≡ old + (elements_of a').count → new ≡ mid + (elements_of b').count → new ≡ old + (elements_of e).count
 two_counted e e' a b a' b' old mid new is sums ga gb ha hb =
-    let here = ap (λ x. (elements_of x).count) is in
-    let first = ap (λ x. (elements_of x).count) ga in
-    let second = ap (λ x. (elements_of x).count) gb in
+    let here : (elements_of e).count ≡ (elements_of e').count = ap (λ (x : Expr). (elements_of x).count) is in
+    let first : (elements_of a').count ≡ (elements_of a).count = ap (λ (x : Expr). (elements_of x).count) ga in
+    let second : (elements_of b').count ≡ (elements_of b).count = ap (λ (x : Expr). (elements_of x).count) gb in
     omega (arith, here, sums, first, second, ha, hb)
 
 pub three_counted : (e e' c a b c' a' b' : Expr) (old one two new : ℕ) → e ≡ e' → (elements_of e').count ≡ (elements_of c).count + ((elements_of a).count + (elements_of b).count)
     → c' ≡ c → a' ≡ a → b' ≡ b → one ≡ old + (elements_of c').count → two ≡ one + (elements_of a').count → new ≡ two + (elements_of b').count → new ≡ old + (elements_of e).count
 three_counted e e' c a b c' a' b' old one two new is sums gc ga gb hc ha hb =
-    let here = ap (λ x. (elements_of x).count) is in
-    let zeroth = ap (λ x. (elements_of x).count) gc in
-    let first = ap (λ x. (elements_of x).count) ga in
-    let second = ap (λ x. (elements_of x).count) gb in
+    let here : (elements_of e).count ≡ (elements_of e').count = ap (λ (x : Expr). (elements_of x).count) is in
+    let zeroth : (elements_of c').count ≡ (elements_of c).count = ap (λ (x : Expr). (elements_of x).count) gc in
+    let first : (elements_of a').count ≡ (elements_of a).count = ap (λ (x : Expr). (elements_of x).count) ga in
+    let second : (elements_of b').count ≡ (elements_of b).count = ap (λ (x : Expr). (elements_of x).count) gb in
     omega (arith, here, sums, zeroth, first, second, hc, ha, hb)
+
+plus_none : (n : ℕ) → n + 0 ≡ n
+plus_none n = omega arith
+
+plus_assoc : (a b c : ℕ) → a + (b + c) ≡ (a + b) + c
+plus_assoc a b c = omega arith
 
 elements_in-append : (xs ys : List Expr) → elements_in (xs ++ ys) ≡ elements_in xs + elements_in ys
 elements_in-append [] ys = refl
 elements_in-append (x ∷ xs) ys =
-    let rest = elements_in-append xs ys in
-    omega (arith, rest)
+    ap (λ n. (elements_of x).count + n) (elements_in-append xs ys) ∙ plus_assoc (elements_of x).count (elements_in xs) (elements_in ys)
 
 pub counted_next : (es : List Expr) (i : ℕ) (e : Expr) (old now new : ℕ) → e ≡ get_or es i e → i < length es
     → now ≡ old + elements_in (take i es) → new ≡ now + (elements_of e).count → new ≡ old + elements_in (take (i + 1) es)
 counted_next es i e old now new at within h k =
     let more : take (i + 1) es ≡ take i es ++ e ∷ [] = take_more es i e within ∙ ap (λ y. take i es ++ y ∷ []) (sym at) in
-    let sums = ap elements_in more ∙ elements_in-append (take i es) (e ∷ []) in
-    omega (arith, sums, h, k)
+    let one : elements_in (e ∷ []) ≡ (elements_of e).count = plus_none (elements_of e).count in
+    let sums : elements_in (take (i + 1) es) ≡ elements_in (take i es) + elements_in (e ∷ []) = ap elements_in more ∙ elements_in-append (take i es) (e ∷ []) in
+    omega (arith, sums, one, h, k)
 
 -- ---- the references in expressions
 
@@ -120,10 +126,8 @@ expr_length e g n =
 subs_length : (es : List Expr) (g : Where) (n : ℕ) → length ((subscripts es).references g n) ≡ elements_in es
 subs_length [] g n = refl
 subs_length (e ∷ es) g n =
-    let both = length-append ((elements_of e).references g n) ((subscripts es).references g (n + (elements_of e).count)) in
-    let first = expr_length e g n in
-    let rest = subs_length es g (n + (elements_of e).count) in
-    omega (arith, both, first, rest)
+    length-append ((elements_of e).references g n) ((subscripts es).references g (n + (elements_of e).count))
+    ∙ (λ i. expr_length e g n i + subs_length es g (n + (elements_of e).count) i)
 
 -- ---- statements
 
@@ -157,37 +161,37 @@ pub assign_counted : (s : Stmt) (place a : ℕ) (subs es : List Expr) (value : E
     → s ≡ stmt.Assign place a subs value → es ≡ subs → one ≡ old + elements_in es → two ≡ one + (elements_of value).count → new ≡ two + 1
     → new ≡ old + length (refers s g 0)
 assign_counted s place a subs es value old one two new g is get h k l =
-    let whole = ap (λ x. length (refers x g 0)) is ∙ assign_length place a subs value g in
-    let part = ap elements_in get in
+    let whole : length (refers s g 0) ≡ elements_in subs + ((elements_of value).count + 1) = ap (λ (x : Stmt). length (refers x g 0)) is ∙ assign_length place a subs value g in
+    let part : elements_in es ≡ elements_in subs = ap elements_in get in
     omega (arith, whole, part, h, k, l)
 
 pub add_counted : (s : Stmt) (place a : ℕ) (subs es : List Expr) (value : Expr) (atomic : Bool) (old one two new : ℕ) (g : Where)
     → s ≡ stmt.AddTo place a subs value atomic → es ≡ subs → one ≡ old + elements_in es → two ≡ one + (elements_of value).count → new ≡ two + 2
     → new ≡ old + length (refers s g 0)
 add_counted s place a subs es value atomic old one two new g is get h k l =
-    let whole = ap (λ x. length (refers x g 0)) is ∙ add_length place a subs value atomic g in
-    let part = ap elements_in get in
+    let whole : length (refers s g 0) ≡ elements_in subs + ((elements_of value).count + 2) = ap (λ (x : Stmt). length (refers x g 0)) is ∙ add_length place a subs value atomic g in
+    let part : elements_in es ≡ elements_in subs = ap elements_in get in
     omega (arith, whole, part, h, k, l)
 
 pub init_counted : (s : Stmt) (place x : ℕ) (value : Expr) (old new : ℕ) (g : Where)
     → s ≡ stmt.Declare place x (Some value) → new ≡ old + (elements_of value).count → new ≡ old + length (refers s g 0)
 init_counted s place x value old new g is h =
-    let whole =
-    ap (λ z. length (refers z g 0)) is ∙ ap (λ (r : Referring). length (r g 0)) (fold_stmt-Declare (references_at no_adds) (references_inside no_adds) place x (Some value))
+    let whole : length (refers s g 0) ≡ (elements_of value).count =
+    ap (λ (z : Stmt). length (refers z g 0)) is ∙ ap (λ (r : Referring). length (r g 0)) (fold_stmt-Declare (references_at no_adds) (references_inside no_adds) place x (Some value))
     ∙ expr_length value g 0 in
     omega (arith, whole, h)
 
 pub no_init_counted : (s : Stmt) (place x : ℕ) (old : ℕ) (g : Where) → s ≡ stmt.Declare place x None → old ≡ old + length (refers s g 0)
 no_init_counted s place x old g is =
     let whole : length (refers s g 0) ≡ 0 =
-    ap (λ z. length (refers z g 0)) is ∙ ap (λ (r : Referring). length (r g 0)) (fold_stmt-Declare (references_at no_adds) (references_inside no_adds) place x None) in
+    ap (λ (z : Stmt). length (refers z g 0)) is ∙ ap (λ (r : Referring). length (r g 0)) (fold_stmt-Declare (references_at no_adds) (references_inside no_adds) place x None) in
     omega (arith, whole)
 
 pub set_counted : (s : Stmt) (place x : ℕ) (value : Expr) (old new : ℕ) (g : Where)
     → s ≡ stmt.SetLocal place x value → new ≡ old + (elements_of value).count → new ≡ old + length (refers s g 0)
 set_counted s place x value old new g is h =
-    let whole =
-    ap (λ z. length (refers z g 0)) is ∙ ap (λ (r : Referring). length (r g 0)) (fold_stmt-SetLocal (references_at no_adds) (references_inside no_adds) place x value)
+    let whole : length (refers s g 0) ≡ (elements_of value).count =
+    ap (λ (z : Stmt). length (refers z g 0)) is ∙ ap (λ (r : Referring). length (r g 0)) (fold_stmt-SetLocal (references_at no_adds) (references_inside no_adds) place x value)
     ∙ expr_length value g 0 in
     omega (arith, whole, h)
 
@@ -246,9 +250,6 @@ listed_next all i x old now new g k at within h e =
     ∙ ap length (list_references-snoc (map refers (take i all)) (refers x) g k)
     ∙ length-append first (last ++ []) ∙ ap (λ n. length first + n) (length-append last [] ∙ plus_none (length last)) in
     omega (arith, whole, h, e)
-  where
-    plus_none : (n : ℕ) → n + 0 ≡ n
-    plus_none n = omega arith
 
 pub placed_reached : (path : List Range) (n : Nesting) (g : Where) (k : ℕ) → Reached path n g → Reached path n (placed g k)
 placed_reached path n g k h = record { around = h.around; ranges = h.ranges; level = h.level }
@@ -266,19 +267,19 @@ if_counted s place test body otherwise old one two new g is h k l =
     let first = list_references (map refers body) (perhaps g) 0 0 in
     let second = list_references (map refers otherwise) (perhaps g) (length (map refers body)) 0 in
     let whole : length (refers s g 0) ≡ (elements_of test).count + (length first + length second) =
-    ap (λ z. length (refers z g 0)) is ∙ ap (λ (r : Referring). length (r g 0)) (fold_stmt-If (references_at no_adds) (references_inside no_adds) place test body otherwise)
+    ap (λ (z : Stmt). length (refers z g 0)) is ∙ ap (λ (r : Referring). length (r g 0)) (fold_stmt-If (references_at no_adds) (references_inside no_adds) place test body otherwise)
     ∙ length-append tested (first ++ second) ∙ (λ i. expr_length test g 0 i + length-append first second i) in
     omega (arith, whole, h, k, l)
 
 pub block_counted : (s : Stmt) (body : List Stmt) (old new : ℕ) (g : Where) → s ≡ stmt.Block body
     → new ≡ old + length (list_references (map refers body) g 0 0) → new ≡ old + length (refers s g 0)
 block_counted s body old new g is h =
-    h ∙ ap (λ n. old + n) (sym (ap (λ z. length (refers z g 0)) is ∙ ap (λ (r : Referring). length (r g 0)) (fold_stmt-Block (references_at no_adds) (references_inside no_adds) body)))
+    h ∙ ap (λ n. old + n) (sym (ap (λ (z : Stmt). length (refers z g 0)) is ∙ ap (λ (r : Referring). length (r g 0)) (fold_stmt-Block (references_at no_adds) (references_inside no_adds) body)))
 
 pub for_counted : (s : Stmt) (l : Loop) (old new : ℕ) (g : Where) → s ≡ stmt.For l
     → new ≡ old + length (loop_references no_adds l g 0) → new ≡ old + length (refers s g 0)
 for_counted s l old new g is h =
-    h ∙ ap (λ n. old + n) (sym (ap (λ z. length (refers z g 0)) is ∙ ap (λ (r : Referring). length (r g 0)) (fold_stmt-For (references_at no_adds) (references_inside no_adds) l)))
+    h ∙ ap (λ n. old + n) (sym (ap (λ (z : Stmt). length (refers z g 0)) is ∙ ap (λ (r : Referring). length (r g 0)) (fold_stmt-For (references_at no_adds) (references_inside no_adds) l)))
 
 -- ---- loops
 
@@ -311,17 +312,18 @@ few level h = let small : level < 8 = grind (arith, nat_tests, h) in omega (arit
 pub reached_inside : (head : Loop) (path next : List Range) (n : Nesting) (g : Where) → Reached path n g → Kept (out-Loop head) n
     → (passes_hull path (out-Loop head) ≡ false → length path < 16 → next ≡ path ++ range_of path (out-Loop head) ∷ [])
     → Reached next (entered (out-Loop head) n) (in_turn g (out-Loop head))
-reached_inside head path next n g h k open =
+reached_inside head path next n g h k opened =
     let l = out-Loop head in
     let short : length path < 16 = subst (λ m. m < 16) h.level (few n.level k.shallow) in
-    let next_is : next ≡ path ++ range_of path l ∷ [] = open (ap (λ p. passes_hull p l) (sym h.around) ∙ k.hull) short in
+    let next_is : next ≡ path ++ range_of path l ∷ [] = opened (ap (λ p. passes_hull p l) (sym h.around) ∙ k.hull) short in
     let longer : length (path ++ range_of path l ∷ []) ≡ length path + 1 = length_one path (range_of path l) in
     let longer_next : length next ≡ length path + 1 = ap length next_is ∙ longer in
-    let level = h.level in
+    let level : n.level ≡ length path = h.level in
+    let one_more : suc n.level ≡ length next = omega (arith, level, longer_next) in
     record {
       around = ap (λ p. p ++ range_of p l ∷ []) h.around ∙ sym next_is;
       ranges = ap (λ p. p ++ range_of p l ∷ []) h.ranges ∙ sym next_is;
-      level = omega (arith, level, longer_next);
+      level = one_more;
     }
 
 -- what stands in an inner loop

@@ -32,7 +32,7 @@ large_next all i x old now new at within h k =
     ∙ ap (λ l. kept old (large_in (first ++ l))) (sym (append-nil (outermost_in x)))
     ∙ ap (λ l. kept old (large_in l)) (sym (flat_map-append outermost_in (take i all) (x ∷ [])) ∙ ap (flat_map outermost_in) (sym more))
 
-flat_seconds : (xs : List Stmt) → flat_map (λ x. x.1) (map (beside outermost_in) xs) ≡ flat_map outermost_in xs
+flat_seconds : (xs : List Stmt) → flat_map (λ (x : Stmt × List Loop). x.1) (map (beside outermost_in) xs) ≡ flat_map outermost_in xs
 flat_seconds [] = refl
 flat_seconds (x ∷ xs) = ap (λ l. outermost_in x ++ l) (flat_seconds xs)
 

@@ -66,6 +66,16 @@ fn sizes(alloc: Global, all: &[RawExpr], b: &mut Builder) -> Result<Vec<u32>, Ou
     Ok(values)
 }
 
+/// A number of 32 bits.
+fn number_of(n: usize) -> Result<u32, OutOfMemory>
+    ensures { IfOk result (λ m. m ≡ n) }
+{
+    if n > 4_294_967_295 {
+        return Err(OutOfMemory);
+    }
+    Ok(n as u32)
+}
+
 /// An array of this kind.
 fn declare_array<'a>(
     alloc: Global,
@@ -78,8 +88,8 @@ fn declare_array<'a>(
     let b = &mut heads.builder;
     note_declared(&raw.name, b);
     let dims = Dims::from_vec(sizes(alloc, raw.sizes.as_slice(), b)?);
-    let number = u32::try_from(heads.arrays.len()).map_err(|_| OutOfMemory)?;
-    let count = u32::try_from(raw.sizes.len()).map_err(|_| OutOfMemory)?;
+    let number = number_of(heads.arrays.len())?;
+    let count = number_of(raw.sizes.len())?;
     b.place.declare(&raw.name, Meaning::Array(number, count))?;
     let name = Name::new(alloc, raw.name.text)?;
     heads.arrays.push(Array { name, kind, dims })?;
