@@ -94,6 +94,9 @@ three_counted e e' c a b c' a' b' old one two new is sums gc ga gb hc ha hb =
     let second : (elements_of b').count ≡ (elements_of b).count = ap (λ (x : Expr). (elements_of x).count) gb in
     omega (arith, here, sums, zeroth, first, second, hc, ha, hb)
 
+none_plus : (n : ℕ) → n ≡ 0 + n
+none_plus n = omega arith
+
 plus_none : (n : ℕ) → n + 0 ≡ n
 plus_none n = omega arith
 
@@ -101,7 +104,7 @@ plus_assoc : (a b c : ℕ) → a + (b + c) ≡ (a + b) + c
 plus_assoc a b c = omega arith
 
 elements_in-append : (xs ys : List Expr) → elements_in (xs ++ ys) ≡ elements_in xs + elements_in ys
-elements_in-append [] ys = refl
+elements_in-append [] ys = none_plus (elements_in ys)
 elements_in-append (x ∷ xs) ys =
     ap (λ n. (elements_of x).count + n) (elements_in-append xs ys) ∙ plus_assoc (elements_of x).count (elements_in xs) (elements_in ys)
 

@@ -72,6 +72,7 @@ fn read_heads<'a>(
 }
 
 /// The locals that loops without `int` have as their iterators.
+#[tactic(auto, using(crate::proofs::WholeLaws::all_taken))]
 fn iterators_in(alloc: Global, raw: &RawUnit) -> Result<Items<u32>, OutOfMemory>
     ensures { IfOk result (λ its. its ≡ taken_in raw.now) }
 {
