@@ -9,12 +9,13 @@ pub returns : goal.returns
 returns c =
     let h = c.in_ok-heads.heads in
     let b = h.builder in
-    let name : c.in_ok-function.function ≡ c.args.raw.now.function.text = c.in_ok-function.ensures in
+    let name : c.in_ok-function.function ≡ c.args.raw.now.function.text = search rules in
+    let items : c.as_slice.result.now ≡ c.args.raw.now.body = search rules in
     let begun : c.new-body.result ≡ [] = c.new-body.ensures in
-    let state = c.in_ok-statements.ensures.state ∙ ap (λ l. after_fragment b (in_order (map stmt_fragment l) b.place)) c.as_slice.ensures in
+    let state = c.in_ok-statements.ensures.state ∙ ap (λ l. after_fragment b (in_order (map stmt_fragment l) b.place)) items in
     let body =
     c.in_ok-statements.ensures.made ∙ ap (λ l. l ++ (in_order (map stmt_fragment c.as_slice.result.now) b.place).statements) begun
-    ∙ ap (λ l. [] ++ (in_order (map stmt_fragment l) b.place).statements) c.as_slice.ensures in
+    ∙ ap (λ l. [] ++ (in_order (map stmt_fragment l) b.place).statements) items in
     (λ i. record {
       unit = record { includes = h.includes; arrays = h.arrays; locals = c.statements.new.b.locals; function = name i; body = c.statements.new.out };
       places = h.places;
