@@ -1,21 +1,73 @@
 -- A text has one answer.
-use Rattle.std.proofs.Common.{◌≡◌, ◌∙◌, ap, sym, refl, subst, ℕ, List, Option, Some, None, Result, Ok, Err, ◌⊎◌, inl, inr}
+use Rattle.std.proofs.Common.{◌≡◌, ◌∙◌, ap, sym, refl, ℕ, List, Option, Some, None, Result, Ok, Err, ◌⊎◌, inl, inr}
 use Rattle.species_ast.specs.Reading.{IsAccepted, Verdict, IsVerdict}
 use Rattle.species_ast.specs.declared.raw.RawUnit.{RawUnit}
 use Rattle.species_ast.specs.declared.tree.Unit.{Unit as Program}
-use Rattle.species_ast.specs.Scope.Refusals.{Finding}
+use Rattle.species_ast.specs.Scope.Refusals.{Limit, Refusal, Finding}
 use Rattle.species_ast.specs.Scope.Conditions.{resolved}
+use Rattle.species_names.specs.declared.finding.Limit as code_limit
+use Rattle.species_names.specs.declared.finding.Limit.TheVariants as limit
 use Rattle.species_parser.specs.declared.refusal.ReadRefusal.{ReadRefusal}
 use Rattle.species_parser.specs.declared.refusal.ReadRefusal.TheVariants as read
 use Rattle.species_parser.proofs.Reading.{reads_one_way}
 use Rattle.species_scope.specs.declared.refusal.ScopeRefusal.{ScopeRefusal}
-use Rattle.species_scope.specs.Answers as scope
+use Rattle.species_scope.specs.declared.refusal.ScopeRefusal.TheVariants as code
+use Rattle.species_scope.specs.Answers.{finding_of}
 use Rattle.species_reading.specs.declared.refusal.ProgramRefusal.{ProgramRefusal}
 use Rattle.species_reading.specs.declared.refusal.ProgramRefusal.TheVariants.{Read, Scope, Memory}
-use Rattle.species_reading.specs.Answers.{IsUnread, IsResolved, IsOutOfScope, Answers, IsUnlessMemory, IsRefusedUnlessMemory}
+use Rattle.species_reading.specs.Answers.{IsUnread, IsResolved, IsOutOfScope, Answers, IsUnlessMemory}
+
+-- ---- a finding is of one refusal
+
+limit_back : Limit → code_limit.Limit
+limit_back Limit.Loops = limit.Loops
+limit_back Limit.Dims = limit.Dims
+limit_back Limit.Elements = limit.Elements
+limit_back Limit.References = limit.References
+limit_back Limit.Hull = limit.Hull
+limit_back Limit.Step = limit.Step
+limit_back Limit.Bound = limit.Bound
+
+refusal_back : Refusal → ℕ → ScopeRefusal
+refusal_back Refusal.Unknown p = code.Unknown p
+refusal_back Refusal.Duplicate p = code.Duplicate p
+refusal_back Refusal.DimensionCount p = code.DimensionCount p
+refusal_back Refusal.IteratorAssigned p = code.IteratorAssigned p
+refusal_back Refusal.IteratorOutside p = code.IteratorOutside p
+refusal_back Refusal.NotStatic p = code.NotStatic p
+refusal_back Refusal.BadStep p = code.BadStep p
+refusal_back Refusal.BadMark p = code.BadMark p
+refusal_back (Refusal.LimitPassed l) p = code.Limit (limit_back l) p
+
+back : Option Finding → ScopeRefusal
+back (Some f) = refusal_back f.refusal f.place
+back None = code.Memory
+
+comes_back : (r : ScopeRefusal) → back (finding_of r) ≡ r
+comes_back (code.Unknown p) = refl
+comes_back (code.Duplicate p) = refl
+comes_back (code.DimensionCount p) = refl
+comes_back (code.IteratorAssigned p) = refl
+comes_back (code.IteratorOutside p) = refl
+comes_back (code.NotStatic p) = refl
+comes_back (code.BadStep p) = refl
+comes_back (code.BadMark p) = refl
+comes_back (code.Limit limit.Loops p) = refl
+comes_back (code.Limit limit.Dims p) = refl
+comes_back (code.Limit limit.Elements p) = refl
+comes_back (code.Limit limit.References p) = refl
+comes_back (code.Limit limit.Hull p) = refl
+comes_back (code.Limit limit.Step p) = refl
+comes_back (code.Limit limit.Bound p) = refl
+comes_back code.Memory = refl
+
+one_scope_refusal : (r q : ScopeRefusal) → finding_of r ≡ finding_of q → r ≡ q
+one_scope_refusal r q h = sym (comes_back r) ∙ ap back h ∙ comes_back q
+
+-- ---- a text is refused in one way
 
 -- what is said of a text that is refused
-abbrev said : ReadRefusal → Verdict
+said : ReadRefusal → Verdict
 said (read.Lex r) = Verdict.refused_text r
 said (read.Load place) = Verdict.refused_load place
 said (read.Syntax place) = Verdict.refused_syntax place
@@ -27,6 +79,18 @@ said_of text (read.Load place) h = h
 said_of text (read.Syntax place) h = h
 said_of text read.Memory h = absurd h
 
+refusal_of_verdict : Verdict → ReadRefusal
+refusal_of_verdict (Verdict.refused_text r) = read.Lex r
+refusal_of_verdict (Verdict.refused_load place) = read.Load place
+refusal_of_verdict (Verdict.refused_syntax place) = read.Syntax place
+refusal_of_verdict (Verdict.accepted u) = read.Memory
+
+unsaid : (text : List ℕ) (r : ReadRefusal) → IsUnread text r → refusal_of_verdict (said r) ≡ r
+unsaid text (read.Lex r) h = refl
+unsaid text (read.Load place) h = refl
+unsaid text (read.Syntax place) h = refl
+unsaid text read.Memory h = absurd h
+
 -- a text that is refused has no tree
 no_tree : (text : List ℕ) (r : ReadRefusal) (u : RawUnit) → IsUnread text r → IsAccepted text u → ⊥
 no_tree text (read.Lex r) u h a = let wrong = reads_one_way.at_most_one text (Verdict.refused_text r) (Verdict.accepted u) h a in cc
@@ -34,61 +98,57 @@ no_tree text (read.Load place) u h a = let wrong = reads_one_way.at_most_one tex
 no_tree text (read.Syntax place) u h a = let wrong = reads_one_way.at_most_one text (Verdict.refused_syntax place) (Verdict.accepted u) h a in cc
 no_tree text read.Memory u h a = absurd h
 
+one_read_refusal : (text : List ℕ) (r q : ReadRefusal) → IsUnread text r → IsUnread text q → r ≡ q
+one_read_refusal text r q h k =
+    sym (unsaid text r h) ∙ ap refusal_of_verdict (reads_one_way.at_most_one text (said r) (said q) (said_of text r h) (said_of text q k)) ∙ unsaid text q k
 
-one_tree : (text : List ℕ) (u w : RawUnit) → IsAccepted text u → IsAccepted text w → u ≡ w
-one_tree text u w a b = reads_one_way.one_tree text u w a.1 b.1
+-- ---- a tree has one answer
 
--- one answer of a tree
-one_resolution : (text : List ℕ) (u : RawUnit) (p q : Result Program Finding) → IsAccepted text u → resolved u ≡ p → IsResolved text q → q ≡ p
-one_resolution text u p q a h (w, b, k) = sym k ∙ ap resolved (one_tree text w u b a) ∙ h
+one_resolution : (text : List ℕ) (p q : Result Program Finding) → IsResolved text p → IsResolved text q → p ≡ q
+one_resolution text p q (u, a, h) (w, b, k) = sym h ∙ ap resolved (reads_one_way.one_tree text u w a.1 b.1) ∙ k
 
-pub accepted_answer : (text : List ℕ) (r : Result Program ProgramRefusal) → Answers text r → (u : RawUnit) (unit : Program) → IsAccepted text u → resolved u ≡ Ok unit → IsUnlessMemory r (Ok unit)
-accepted_answer text (Ok v) h u unit a k = inl (same (one_resolution text u (Ok unit) (Ok v) a k h))
+no_resolution : (text : List ℕ) (r : ReadRefusal) (p : Result Program Finding) → IsUnread text r → IsResolved text p → ⊥
+no_resolution text r p h (u, a, k) = no_tree text r u h a
+
+-- the finding of a refusal of names, forms or limits
+Found : List ℕ → ScopeRefusal → Type 0
+Found text r = (f : Finding) × (finding_of r ≡ Some f) × IsResolved text (Err f)
+
+found : (text : List ℕ) (r : ScopeRefusal) → IsOutOfScope text (finding_of r) → Found text r
+found text r h = go (finding_of r) refl h
   where
-    same : {X Y Z : Type 0} {v u : X} → Path (Result X Y) (Ok v) (Ok u) → Path (Result X Z) (Ok v) (Ok u)
-    same {X} {Y} {Z} {v} {u} e = ap (λ (r : Result X Y). elim r [ Ok x ↦ Ok x | Err y ↦ Ok v ]) e
-accepted_answer text (Err (Read r)) h u unit a k = absurd (no_tree text r u h a)
-accepted_answer text (Err (Scope r)) h u unit a k = go (scope.finding_of r) h
-  where
-    go : (o : Option Finding) → IsOutOfScope text o → IsUnlessMemory (Err (Scope r)) (Ok unit)
-    go (Some f) h = let wrong = one_resolution text u (Ok unit) (Err f) a k h in absurd cc
-    go None h = absurd h
-accepted_answer text (Err Memory) h u unit a k = inr refl
+    go : (o : Option Finding) → finding_of r ≡ o → IsOutOfScope text o → Found text r
+    go (Some f) e k = (f, e, k)
+    go None e k = absurd k
 
-read_refusal : (text : List ℕ) (r q : ReadRefusal) → IsUnread text r → IsUnread text q → r ≡ q
-read_refusal text r q h k = go r q h k (reads_one_way.at_most_one text (said r) (said q) (said_of text r h) (said_of text q k))
-  where
-    go : (r q : ReadRefusal) → IsUnread text r → IsUnread text q → said r ≡ said q → r ≡ q
-    go (read.Lex a) (read.Lex b) h k e = ap read.Lex cc
-    go (read.Load a) (read.Load b) h k e = ap read.Load cc
-    go (read.Syntax a) (read.Syntax b) h k e = ap read.Syntax cc
-    go (read.Lex a) (read.Load b) h k e = absurd cc
-    go (read.Lex a) (read.Syntax b) h k e = absurd cc
-    go (read.Load a) (read.Lex b) h k e = absurd cc
-    go (read.Load a) (read.Syntax b) h k e = absurd cc
-    go (read.Syntax a) (read.Lex b) h k e = absurd cc
-    go (read.Syntax a) (read.Load b) h k e = absurd cc
-    go read.Memory q h k e = absurd h
-    go (read.Lex a) read.Memory h k e = absurd k
-    go (read.Load a) read.Memory h k e = absurd k
-    go (read.Syntax a) read.Memory h k e = absurd k
+not_both : (u : Program) (f : Finding) → Path (Result Program Finding) (Ok u) (Err f) → ⊥
+not_both u f h = cc
 
-pub unread_answer : (text : List ℕ) (r : Result Program ProgramRefusal) → Answers text r → (q : ReadRefusal) → IsUnread text q → IsUnlessMemory r (Err (Read q))
-unread_answer text (Ok v) (w, b, k) q h = absurd (no_tree text q w h b)
-unread_answer text (Err (Read r)) a q h = inl (ap (λ z. Err (Read z)) (read_refusal text r q a h))
-unread_answer text (Err (Scope r)) a q h = go (scope.finding_of r) a
-  where
-    go : (o : Option Finding) → IsOutOfScope text o → IsUnlessMemory (Err (Scope r)) (Err (Read q))
-    go (Some f) (w, b, k) = absurd (no_tree text q w h b)
-    go None a = absurd a
-unread_answer text (Err Memory) a q h = inr refl
+same_unit : (u v : Program) → Path (Result Program Finding) (Ok u) (Ok v) → u ≡ v
+same_unit u v h = ap (λ (r : Result Program Finding). elim r [ Ok x ↦ x | Err y ↦ u ]) h
 
-pub refused_answer : (text : List ℕ) (r : Result Program ProgramRefusal) → Answers text r → (u : RawUnit) (f : Finding) → IsAccepted text u → resolved u ≡ Err f → IsRefusedUnlessMemory r f
-refused_answer text (Ok v) h u f a k = let wrong = one_resolution text u (Err f) (Ok v) a k h in absurd cc
-refused_answer text (Err (Read r)) h u f a k = absurd (no_tree text r u h a)
-refused_answer text (Err (Scope r)) h u f a k = go (scope.finding_of r) refl h
-  where
-    go : (o : Option Finding) → scope.finding_of r ≡ o → IsOutOfScope text o → IsRefusedUnlessMemory (Err (Scope r)) f
-    go (Some g) e h = let same : Path (Result Program Finding) (Err g) (Err f) = one_resolution text u (Err f) (Err g) a k h in inl (r, e ∙ ap Some (ap (λ (z : Result Program Finding). elim z [ Ok x ↦ f | Err y ↦ y ]) same), refl)
-    go None e h = absurd h
-refused_answer text (Err Memory) h u f a k = inr refl
+same_finding : (f g : Finding) → Path (Result Program Finding) (Err f) (Err g) → f ≡ g
+same_finding f g h = ap (λ (r : Result Program Finding). elim r [ Ok x ↦ f | Err y ↦ y ]) h
+
+-- ---- the answer
+
+pub one_answer : (text : List ℕ) (a b : Result Program ProgramRefusal) → Answers text a → Answers text b → IsUnlessMemory a b
+one_answer text (Ok v) (Ok w) h k = inl (ap Ok (same_unit v w (one_resolution text (Ok v) (Ok w) h k)))
+one_answer text (Ok v) (Err (Read q)) h k = absurd (no_resolution text q (Ok v) k h)
+one_answer text (Ok v) (Err (Scope q)) h k = let (f, e, m) = found text q k in absurd (not_both v f (one_resolution text (Ok v) (Err f) h m))
+one_answer text (Ok v) (Err Memory) h k = tt
+one_answer text (Err (Read r)) (Ok w) h k = absurd (no_resolution text r (Ok w) h k)
+one_answer text (Err (Read r)) (Err (Read q)) h k = inl (ap (λ z. Err (Read z)) (one_read_refusal text r q h k))
+one_answer text (Err (Read r)) (Err (Scope q)) h k = let (f, e, m) = found text q k in absurd (no_resolution text r (Err f) h m)
+one_answer text (Err (Read r)) (Err Memory) h k = tt
+one_answer text (Err (Scope r)) (Ok w) h k = let (f, e, m) = found text r h in absurd (not_both w f (one_resolution text (Ok w) (Err f) k m))
+one_answer text (Err (Scope r)) (Err (Read q)) h k = let (f, e, m) = found text r h in absurd (no_resolution text q (Err f) k m)
+one_answer text (Err (Scope r)) (Err (Scope q)) h k =
+    let (f, e, m) = found text r h in
+    let (g, d, n) = found text q k in
+    inl (ap (λ z. Err (Scope z)) (one_scope_refusal r q (e ∙ ap Some (same_finding f g (one_resolution text (Err f) (Err g) m n)) ∙ sym d)))
+one_answer text (Err (Scope r)) (Err Memory) h k = tt
+one_answer text (Err Memory) (Ok w) h k = inr refl
+one_answer text (Err Memory) (Err (Read q)) h k = inr refl
+one_answer text (Err Memory) (Err (Scope q)) h k = inr refl
+one_answer text (Err Memory) (Err Memory) h k = tt

@@ -35,10 +35,9 @@ Answers text (Err (Read refusal)) = IsUnread text refusal
 Answers text (Err (Scope refusal)) = IsOutOfScope text (finding_of refusal)
 Answers text (Err Memory) = Unit {0}
 
--- this is the answer, unless memory ran out
+-- This is the answer, unless memory ran out, which is said of any text.
 abbrev pub IsUnlessMemory : Result Program ProgramRefusal → Result Program ProgramRefusal → Type 0
-IsUnlessMemory result answer = (result ≡ answer) ⊎ (result ≡ Err Memory)
-
--- the finding is the answer, unless memory ran out
-abbrev pub IsRefusedUnlessMemory : Result Program ProgramRefusal → Finding → Type 0
-IsRefusedUnlessMemory result f = ((r : ScopeRefusal) × (finding_of r ≡ Some f) × (result ≡ Err (Scope r))) ⊎ (result ≡ Err Memory)
+IsUnlessMemory result (Ok unit) = (result ≡ Ok unit) ⊎ (result ≡ Err Memory)
+IsUnlessMemory result (Err (Read refusal)) = (result ≡ Err (Read refusal)) ⊎ (result ≡ Err Memory)
+IsUnlessMemory result (Err (Scope refusal)) = (result ≡ Err (Scope refusal)) ⊎ (result ≡ Err Memory)
+IsUnlessMemory result (Err Memory) = Unit {0}

@@ -1,35 +1,44 @@
 //! Reading a whole program.
 
-ghost use Rattle.std.specs.Prelude.{◌≡◌, ◌≤◌, Ok, Err, Some, length};
+ghost use Rattle.std.specs.Prelude.{◌≤◌, ℕ, List, Result, length, IfOk};
 ghost use Rattle.species_ast.specs.Limits.{most_bytes};
 ghost use Rattle.species_ast.specs.Reading.{IsAccepted};
-ghost use Rattle.species_ast.specs.declared.raw.RawUnit.{RawUnit};
 ghost use Rattle.species_ast.specs.declared.tree.Unit.{Unit as Program};
-ghost use Rattle.species_ast.specs.Scope.Refusals.{Finding};
-ghost use Rattle.species_ast.specs.Scope.Conditions as conditions;
+ghost use Rattle.species_ast.specs.Scope.References.{HasReadSize};
+ghost use Rattle.species_ast.specs.Scope.WellMade.{IsWellMade};
 ghost use Rattle.species_ast.specs.Scope.Written.{IsWritten};
-ghost use Rattle.species_parser.specs.declared.refusal.ReadRefusal as spec_refusal;
-ghost use Rattle.species_reading.specs.Answers.{IsUnread, IsUnlessMemory, IsRefusedUnlessMemory, Answers};
+ghost use Rattle.species_reading.specs.declared.refusal.ProgramRefusal as spec_refusal;
+ghost use Rattle.species_reading.specs.Answers.{Answers, IsUnlessMemory};
 
-use crate::refusal::ProgramRefusal;
+use crate::refusal::{ProgramRefusal, of_scope, of_text};
 use species_ast::{RawUnit, Unit};
-use species_parser::{ReadRefusal, parse};
-use species_scope::{ScopeRefusal, resolve};
+use species_parser::parse;
+use species_scope::resolve;
 use std::alloc::Global;
+
+/// What a raw tree becomes.
+pub(crate) fn resolved(alloc: Global, raw: &RawUnit) -> Result<Unit, ProgramRefusal>
+    requires { IsWritten raw.now }
+    ensures answers { (text : List ℕ) → IsAccepted text raw.now → Answers text result }
+    ensures made { IfOk result IsWellMade }
+    ensures size { IfOk result HasReadSize }
+{
+    match resolve(alloc, raw) {
+        Ok(unit) => Ok(unit),
+        Err(refusal) => Err(of_scope(refusal)),
+    }
+}
 
 /// What `read_program` answers.
 fn read(alloc: Global, bytes: &[u8]) -> Result<Unit, ProgramRefusal>
     requires { length bytes.now ≤ most_bytes }
-    ensures { Answers bytes.now result }
+    ensures answers { Answers bytes.now result }
+    ensures made { IfOk result IsWellMade }
+    ensures size { IfOk result HasReadSize }
 {
     match parse(alloc, bytes) {
-        Ok(raw) => match resolve(alloc, &raw) {
-            Ok(unit) => Ok(unit),
-            Err(ScopeRefusal::Memory) => Err(ProgramRefusal::Memory),
-            Err(refusal) => Err(ProgramRefusal::Scope(refusal)),
-        },
-        Err(ReadRefusal::Memory) => Err(ProgramRefusal::Memory),
-        Err(refusal) => Err(ProgramRefusal::Read(refusal)),
+        Ok(raw) => resolved(alloc, &raw),
+        Err(refusal) => Err(of_text(refusal)),
     }
 }
 
@@ -37,9 +46,11 @@ fn read(alloc: Global, bytes: &[u8]) -> Result<Unit, ProgramRefusal>
 pub fn read_program(alloc: Global, bytes: &[u8]) -> Result<Unit, ProgramRefusal>
     requires { length bytes.now ≤ most_bytes }
     ensures answers { Answers bytes.now result }
-    ensures accepted { (u : RawUnit) (unit : Program) → IsAccepted bytes.now u → conditions.resolved u ≡ Ok unit → IsUnlessMemory result (Ok unit) }
-    ensures unread { (refusal : spec_refusal.ReadRefusal) → IsUnread bytes.now refusal → IsUnlessMemory result (Err (ProgramRefusal.Read refusal)) }
-    ensures refused { (u : RawUnit) (f : Finding) → IsAccepted bytes.now u → conditions.resolved u ≡ Err f → IsRefusedUnlessMemory result f }
+    ensures made { IfOk result IsWellMade }
+    ensures size { IfOk result HasReadSize }
+
+    // Where one of them is true, it is the answer, unless memory runs out.
+    ensures exact { (answer : Result Program spec_refusal.ProgramRefusal) → Answers bytes.now answer → IsUnlessMemory result answer }
 {
     read(alloc, bytes)
 }

@@ -1,5 +1,10 @@
 //! Why a program is not read.
-use species_parser::ReadRefusal;
+
+ghost use Rattle.std.specs.Prelude.{◌≡◌};
+ghost use Rattle.species_parser.specs.Tabled as tabled;
+ghost use Rattle.species_reading.specs.Refusals as refusals;
+
+use species_parser::{ReadRefusal, TableRefusal};
 use species_scope::ScopeRefusal;
 use thiserror::Error;
 
@@ -30,4 +35,47 @@ pub enum InputRefusal {
     /// Memory ran out.
     #[error("out of memory")]
     Memory,
+}
+
+/// A refusal of a text.
+pub(crate) fn of_text(refusal: ReadRefusal) -> ProgramRefusal
+    ensures { result ≡ refusals.of_text refusal }
+{
+    match refusal {
+        ReadRefusal::Lex(r) => ProgramRefusal::Read(ReadRefusal::Lex(r)),
+        ReadRefusal::Load(place) => ProgramRefusal::Read(ReadRefusal::Load(place)),
+        ReadRefusal::Syntax(place) => ProgramRefusal::Read(ReadRefusal::Syntax(place)),
+        ReadRefusal::Memory => ProgramRefusal::Memory,
+    }
+}
+
+/// A refusal of the tokens of a text.
+pub(crate) fn of_table(refusal: TableRefusal) -> ProgramRefusal
+    ensures { result ≡ refusals.of_text (tabled.of_text refusal) }
+{
+    match refusal {
+        TableRefusal::Load(place) => ProgramRefusal::Read(ReadRefusal::Load(place)),
+        TableRefusal::Syntax(place) => ProgramRefusal::Read(ReadRefusal::Syntax(place)),
+        TableRefusal::Memory => ProgramRefusal::Memory,
+    }
+}
+
+/// A refusal of names, forms or limits.
+pub(crate) fn of_scope(refusal: ScopeRefusal) -> ProgramRefusal
+    ensures { result ≡ refusals.of_scope refusal }
+{
+    match refusal {
+        ScopeRefusal::Unknown(p) => ProgramRefusal::Scope(ScopeRefusal::Unknown(p)),
+        ScopeRefusal::Duplicate(p) => ProgramRefusal::Scope(ScopeRefusal::Duplicate(p)),
+        ScopeRefusal::DimensionCount(p) => ProgramRefusal::Scope(ScopeRefusal::DimensionCount(p)),
+        ScopeRefusal::IteratorAssigned(p) => {
+            ProgramRefusal::Scope(ScopeRefusal::IteratorAssigned(p))
+        }
+        ScopeRefusal::IteratorOutside(p) => ProgramRefusal::Scope(ScopeRefusal::IteratorOutside(p)),
+        ScopeRefusal::NotStatic(p) => ProgramRefusal::Scope(ScopeRefusal::NotStatic(p)),
+        ScopeRefusal::BadStep(p) => ProgramRefusal::Scope(ScopeRefusal::BadStep(p)),
+        ScopeRefusal::BadMark(p) => ProgramRefusal::Scope(ScopeRefusal::BadMark(p)),
+        ScopeRefusal::Limit(limit, p) => ProgramRefusal::Scope(ScopeRefusal::Limit(limit, p)),
+        ScopeRefusal::Memory => ProgramRefusal::Memory,
+    }
 }

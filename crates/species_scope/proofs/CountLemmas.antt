@@ -351,7 +351,7 @@ unless_counted true path rs old new h e f =
 unless_counted false path rs old new h e f = f refl ∙ ap (λ b. old + length (if b then [] else rs)) h
 
 -- what an outermost loop has
-abbrev nowhere : Where
+abbrev pub nowhere : Where
 nowhere = record { statement = []; path = []; conditional = false }
 
 pub outermost_count : (head : Loop) → reference_count head ≡ length (list_references (map refers (out-Loop head).body) (in_turn nowhere (out-Loop head)) 0 0)

@@ -1,5 +1,5 @@
 -- What is built of a whole program, and what is reported of it.
-use Rattle.std.proofs.Common.{◌≡◌, ◌∙◌, refl, sym, ap, ℕ, List, [], ◌∷◌, ◌++◌, map, Option, Some, None, Bool, true, false, not, ◌&&◌, append-nil}
+use Rattle.std.proofs.Common.{◌≡◌, ◌∙◌, refl, sym, ap, subst, Ok, Err, ℕ, List, [], ◌∷◌, ◌++◌, map, Option, Some, None, Bool, true, false, not, ◌&&◌, append-nil}
 use Rattle.std.specs.Prelude.{is_none}
 use Rattle.std.specs.List.{flat_map, filter_map}
 use Rattle.std.proofs.lemmas.List.{map-append}
@@ -10,11 +10,14 @@ use Rattle.species_ast.specs.declared.tree.Unit.{Unit as Tree}
 use Rattle.species_ast.specs.declared.raw.RawUnit.{RawUnit}
 use Rattle.species_ast.specs.Scope.Loops.{no_loops}
 use Rattle.species_ast.specs.Scope.Meanings.{Declared, occurrence}
-use Rattle.species_ast.specs.Scope.Refusals.{Refusal, Finding, first_in, or_later, refused_at, places_where}
+use Rattle.species_ast.specs.Scope.Refusals.{Refusal, Finding, first_in, or_later, first_of_groups, refused_at, places_where}
 use Rattle.species_ast.specs.Scope.Statements.{LoopSite, Fragment, in_order, stmt_fragment}
 use Rattle.species_ast.specs.Scope.Programs.{Size, ArraySite, Program, program_of, iterators_of, first_scope, arrays_of, globals_from}
-use Rattle.species_ast.specs.Scope.Conditions.{is_static, is_good_step, refused_names, refused_forms, refused_limits, refused_references, refused_arrays, refused_loops, refusal_of, bad_step, not_static}
-use Rattle.species_ast.specs.Scope.WellMade.{made, list_keeps}
+use Rattle.species_ast.specs.Scope.Conditions.{is_static, is_good_step, refused_names, refused_forms, refused_limits, refused_references, refused_arrays, refused_loops, refusal_of, unless_refused, resolved, bad_step, not_static}
+use Rattle.species_ast.specs.Scope.References.{HasReadSize}
+use Rattle.species_ast.specs.Scope.WellMade.{made, list_keeps, IsWellMade}
+use Rattle.species_ast.specs.Scope.Written.{IsWritten}
+use Rattle.species_lawful.proofs.LawfulLaws.{lawful_units_are_made}
 use Rattle.species_ast.proofs.FirstRefusal.{reports_the_first}
 use Rattle.species_ast.proofs.LimitLaws.{not_refused-keeps}
 use Rattle.species_lawful.specs.Walks.{walk_of, taken_in}
@@ -29,7 +32,7 @@ use Rattle.species_scope.specs.declared.globals.Heads.{Heads}
 use Rattle.species_scope.specs.declared.units.Built.{Built}
 use Rattle.species_scope.specs.Formed.{forms_at, size_found, sizes_at}
 use Rattle.species_scope.specs.Built.{after_fragment}
-use Rattle.species_scope.specs.Whole.{heads_of, forms_of, whole_of}
+use Rattle.species_scope.specs.Whole.{heads_of, forms_of, whole_of, unit_groups}
 use Rattle.species_scope.proofs.DeclaringLaws.{globals-iterators}
 
 -- ---- what is built
@@ -156,28 +159,39 @@ keeps_limits u h =
     not_refused-keeps p.unit (first_empty (refused_arrays p) (refused_loops p.unit) (reports_the_first.is_empty (refused_limits p) h))
 
 -- the refusal that is reported, by the first group that has one
-pub by_names : (p : Program) (f : Finding) → first_in (refused_names p) ≡ Some f → Some f ≡ refusal_of p
-by_names p f h = sym (ap (λ o. or_later o (or_later (first_in (refused_forms p)) (or_later (first_in (refused_limits p)) (or_later (first_in (refused_references p.unit)) None)))) h)
-
-pub by_forms : (p : Program) (f : Finding) → first_in (refused_names p) ≡ None → first_in (refused_forms p) ≡ Some f → Some f ≡ refusal_of p
-by_forms p f n h =
-    sym (ap (λ o. or_later o (or_later (first_in (refused_forms p)) (or_later (first_in (refused_limits p)) (or_later (first_in (refused_references p.unit)) None)))) n
-    ∙ ap (λ o. or_later o (or_later (first_in (refused_limits p)) (or_later (first_in (refused_references p.unit)) None))) h)
-
-pub by_limits : (p : Program) (f : Finding) → first_in (refused_names p) ≡ None → first_in (refused_forms p) ≡ None → first_in (refused_limits p) ≡ Some f → Some f ≡ refusal_of p
-by_limits p f n m h =
-    sym (ap (λ o. or_later o (or_later (first_in (refused_forms p)) (or_later (first_in (refused_limits p)) (or_later (first_in (refused_references p.unit)) None)))) n
-    ∙ ap (λ o. or_later o (or_later (first_in (refused_limits p)) (or_later (first_in (refused_references p.unit)) None))) m
-    ∙ ap (λ o. or_later o (or_later (first_in (refused_references p.unit)) None)) h)
+pub by_limits : (p : Program) (f : Finding) → first_in (refused_limits p) ≡ Some f → Some f ≡ first_of_groups (unit_groups p)
+by_limits p f h = sym (ap (λ o. or_later o (or_later (first_in (refused_references p.unit)) None)) h)
 
 or_none : (o : Option Finding) → or_later o None ≡ o
 or_none None = refl
 or_none (Some f) = refl
 
-pub by_references : (p : Program) (o : Option Finding) → first_in (refused_names p) ≡ None → first_in (refused_forms p) ≡ None → first_in (refused_limits p) ≡ None
-    → o ≡ first_in (refused_references p.unit) → o ≡ refusal_of p
-by_references p o n m l h =
-    h ∙ sym (ap (λ z. or_later z (or_later (first_in (refused_forms p)) (or_later (first_in (refused_limits p)) (or_later (first_in (refused_references p.unit)) None)))) n
-    ∙ ap (λ z. or_later z (or_later (first_in (refused_limits p)) (or_later (first_in (refused_references p.unit)) None))) m
-    ∙ ap (λ z. or_later z (or_later (first_in (refused_references p.unit)) None)) l
-    ∙ or_none (first_in (refused_references p.unit)))
+pub by_references : (p : Program) (o : Option Finding) → first_in (refused_limits p) ≡ None → o ≡ first_in (refused_references p.unit) → o ≡ first_of_groups (unit_groups p)
+by_references p o l h = h ∙ sym (ap (λ z. or_later z (or_later (first_in (refused_references p.unit)) None)) l ∙ or_none (first_in (refused_references p.unit)))
+
+pub by_names : (p : Program) (f : Finding) → first_in (refused_names p) ≡ Some f → Some f ≡ refusal_of p
+by_names p f h = sym (ap (λ o. or_later o (or_later (first_in (refused_forms p)) (first_of_groups (unit_groups p)))) h)
+
+pub by_forms : (p : Program) (f : Finding) → first_in (refused_names p) ≡ None → first_in (refused_forms p) ≡ Some f → Some f ≡ refusal_of p
+by_forms p f n h =
+    sym (ap (λ o. or_later o (or_later (first_in (refused_forms p)) (first_of_groups (unit_groups p)))) n
+    ∙ ap (λ o. or_later o (first_of_groups (unit_groups p))) h)
+
+pub by_unit : (p : Program) (o : Option Finding) → first_in (refused_names p) ≡ None → first_in (refused_forms p) ≡ None → o ≡ first_of_groups (unit_groups p) → o ≡ refusal_of p
+by_unit p o n m h =
+    h ∙ sym (ap (λ z. or_later z (or_later (first_in (refused_forms p)) (first_of_groups (unit_groups p)))) n
+    ∙ ap (λ z. or_later z (first_of_groups (unit_groups p))) m)
+
+-- ---- what is answered
+
+pub answers_refused : (u : RawUnit) (f : Finding) → Some f ≡ refusal_of (program_of u) → resolved u ≡ Err f
+answers_refused u f h = ap (λ o. unless_refused o (program_of u).unit) (sym h)
+
+pub answers_lawful : (u : RawUnit) (b : Built) → b ≡ whole_of u (taken_in u) → None ≡ refusal_of (program_of u) → resolved u ≡ Ok b.unit
+answers_lawful u b hb h = ap (λ o. unless_refused o (program_of u).unit) (sym h) ∙ ap (λ (z : Built). Ok z.unit) (sym hb)
+
+pub made_well : (u : RawUnit) (b : Built) → IsWritten u → b ≡ whole_of u (taken_in u) → None ≡ refusal_of (program_of u) → IsWellMade b.unit
+made_well u b w hb h = subst (λ (z : Built). IsWellMade z.unit) (sym hb) (lawful_units_are_made.well_made u w (sym h))
+
+pub made_small : (u : RawUnit) (b : Built) → b ≡ whole_of u (taken_in u) → None ≡ refusal_of (program_of u) → HasReadSize b.unit
+made_small u b hb h = subst (λ (z : Built). HasReadSize z.unit) (sym hb) (lawful_units_are_made.read_size u (sym h))

@@ -3,6 +3,7 @@ use Rattle.std.specs.Prelude.{ℕ, List, [], ◌∷◌, ◌++◌, map, flat_map,
 use Rattle.species_ast.specs.declared.raw.RawUnit.{RawUnit}
 use Rattle.species_ast.specs.Scope.Meanings.{Meaning, Declared, occurrence, scope_with}
 use Rattle.species_ast.specs.Scope.Refusals.{Finding}
+use Rattle.species_ast.specs.Scope.Conditions.{refused_limits, refused_references}
 use Rattle.species_ast.specs.Scope.Programs.{Program, first_scope}
 use Rattle.species_lawful.specs.Walks.{walk_of}
 use Rattle.species_names.specs.Kept.{kept}
@@ -25,10 +26,12 @@ abbrev pub heads_of : RawUnit → List ℕ → Heads
 heads_of u its =
     let h = after_items (no_heads its) u.items in
     let b = h.builder in
-    record h { builder = record b {
-      place = scope_with u.function Meaning.Function b.place;
-      found = noted b.place.iterators b.found (occurrence Declared b.place u.function ∷ []);
-    } }
+    record h {
+      builder = record b {
+        place = scope_with u.function Meaning.Function b.place;
+        found = noted b.place.iterators b.found (occurrence Declared b.place u.function ∷ []);
+      };
+    }
 
 -- what is found at the sizes of arrays and at the bounds and steps of loops
 abbrev pub forms_of : Program → List Finding
@@ -43,3 +46,7 @@ whole_of u its =
       found = noted its None p.names;
       forms = kept None (forms_of p);
     }
+
+-- what is refused of a program whose names and forms are lawful, in groups
+abbrev pub unit_groups : Program → List (List Finding)
+unit_groups p = refused_limits p ∷ refused_references p.unit ∷ []

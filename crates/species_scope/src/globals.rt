@@ -32,13 +32,7 @@ fn extent(number: Option<i32>) -> u32
     ensures { result ≡ programs.extent number }
 {
     match number {
-        Some(n) => {
-            if n < 0 {
-                0
-            } else {
-                n as u32
-            }
-        }
+        Some(n) => { if n < 0 { 0 } else { n as u32 } }
         None => 0,
     }
 }
@@ -120,11 +114,7 @@ fn declare_arrays<'a>(
     Ok(())
 }
 
-fn read_item<'a>(
-    alloc: Global,
-    raw: &RawItem<'a>,
-    heads: &mut Heads<'a>,
-) -> Result<(), OutOfMemory>
+fn read_item<'a>(alloc: Global, raw: &RawItem<'a>, heads: &mut Heads<'a>) -> Result<(), OutOfMemory>
     ensures { OnOk result (heads.new ≡ after_items heads.old (raw.now ∷ [])) }
 {
     match raw {

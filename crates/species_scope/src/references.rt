@@ -252,7 +252,9 @@ fn note_stmt(alloc: Global, stmt: &Stmt, found: &mut Findings) -> Result<(), Out
             Ok(())
         }
         Stmt::If {
-            body, otherwise, ..
+            body,
+            otherwise,
+            ..
         } => {
             note_list(alloc, body.as_slice(), found)?;
             note_list(alloc, otherwise.as_slice(), found)?;

@@ -12,9 +12,9 @@ ghost use Rattle.species_scope.specs.Built.{after_fragment};
 
 use crate::builder::Builder;
 use crate::changes::{atomic, change};
-use crate::headers::{assemble, read_header};
 use crate::expressions::{boxed_value, expression};
 use crate::forms::note_forms;
+use crate::headers::{assemble, read_header};
 use species_ast::{
     Expr, Kind, LocalInfo, Loop, Name, OutOfMemory, RawExpr, RawLocal, RawLoop, RawStmt, RawWhat,
     Stmt,

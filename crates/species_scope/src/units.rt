@@ -5,13 +5,14 @@ ghost use Rattle.std.specs.Option.{option_map};
 ghost use Rattle.species_ast.specs.declared.raw.RawUnit.{RawUnit};
 ghost use Rattle.species_ast.specs.Scope.Programs.{program_of};
 ghost use Rattle.species_ast.specs.Scope.Conditions as conditions;
+ghost use Rattle.species_ast.specs.Scope.Refusals.{first_of_groups};
 ghost use Rattle.species_ast.specs.Scope.References.{HasReadSize};
 ghost use Rattle.species_ast.specs.Scope.WellMade.{IsWellMade};
 ghost use Rattle.species_ast.specs.Scope.Written.{IsWritten};
 ghost use Rattle.species_lawful.specs.Walks.{taken_in};
 ghost use Rattle.species_names.specs.Refused.{finding_seen};
 ghost use Rattle.species_scope.specs.Answers.{Answers};
-ghost use Rattle.species_scope.specs.Whole.{no_heads, heads_of, whole_of};
+ghost use Rattle.species_scope.specs.Whole.{no_heads, heads_of, whole_of, unit_groups};
 
 use crate::builder::Builder;
 use crate::gathers::gather_all;
@@ -54,11 +55,7 @@ fn no_heads<'a>(alloc: Global, taken: &[u32]) -> Result<Heads<'a>, OutOfMemory>
 }
 
 /// What stands before the body, where these locals are the iterators of loops.
-fn read_heads<'a>(
-    alloc: Global,
-    raw: &RawUnit<'a>,
-    taken: &[u32],
-) -> Result<Heads<'a>, OutOfMemory>
+fn read_heads<'a>(alloc: Global, raw: &RawUnit<'a>, taken: &[u32]) -> Result<Heads<'a>, OutOfMemory>
     ensures { IfOk result (λ h. h ≡ heads_of raw.now taken.now) }
 {
     let mut heads = no_heads(alloc, taken)?;
@@ -116,23 +113,32 @@ fn build(alloc: Global, raw: &RawUnit, taken: &[u32]) -> Result<Built, OutOfMemo
     })
 }
 
+/// The refusal that is reported of limits and marks, and where there is none of references.
+fn refusal_of_unit(alloc: Global, built: &Built) -> Result<Option<Finding>, OutOfMemory>
+    ensures { (u : RawUnit) → built.now ≡ whole_of u (taken_in u) → IfOk result (λ f. option_map finding_seen f ≡ first_of_groups (unit_groups (program_of u))) }
+{
+    match first_limit(alloc, &built.unit, built.places.as_slice())? {
+        Some(first) => Ok(Some(first)),
+        None => {
+            let mut references = Findings::new();
+            note_references(alloc, &built.unit, &mut references)?;
+            Ok(references.first())
+        }
+    }
+}
+
 /// The refusal that is reported: names are looked at first, then bounds, sizes and steps, then limits and marks, and then
 /// references.
 fn first_refusal(alloc: Global, built: &Built) -> Result<Option<Finding>, OutOfMemory>
     ensures { (u : RawUnit) → built.now ≡ whole_of u (taken_in u) → IfOk result (λ f. option_map finding_seen f ≡ conditions.refusal_of (program_of u)) }
 {
-    if let Some(first) = built.found.first() {
-        return Ok(Some(first));
+    match built.found.first() {
+        Some(first) => Ok(Some(first)),
+        None => match built.forms.first() {
+            Some(first) => Ok(Some(first)),
+            None => refusal_of_unit(alloc, built),
+        },
     }
-    if let Some(first) = built.forms.first() {
-        return Ok(Some(first));
-    }
-    if let Some(first) = first_limit(alloc, &built.unit, built.places.as_slice())? {
-        return Ok(Some(first));
-    }
-    let mut references = Findings::new();
-    note_references(alloc, &built.unit, &mut references)?;
-    Ok(references.first())
 }
 
 /// The unit of a lawful program, or the refusal of any other that is reported: that of the first group that has one, which is

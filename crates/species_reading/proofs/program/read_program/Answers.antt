@@ -1,12 +1,6 @@
--- The answers that follow, since a text has one.
-use Rattle.species_reading.proofs.AnswerLemmas.{accepted_answer, unread_answer, refused_answer}
+-- The answer is the only one.
+use Rattle.species_reading.proofs.AnswerLemmas.{one_answer}
 use Rattle.species_reading.proofs.program.read_program.Goals as goal
 
-pub returns-clause-accepted : goal.returns-clause-accepted
-returns-clause-accepted c = accepted_answer c.args.bytes.now c.read.result c.read.ensures
-
-pub returns-clause-unread : goal.returns-clause-unread
-returns-clause-unread c = unread_answer c.args.bytes.now c.read.result c.read.ensures
-
-pub returns-clause-refused : goal.returns-clause-refused
-returns-clause-refused c = refused_answer c.args.bytes.now c.read.result c.read.ensures
+pub returns-clause-exact : goal.returns-clause-exact
+returns-clause-exact c answer h = one_answer c.args.bytes.now c.read.result answer c.read.ensures.answers h

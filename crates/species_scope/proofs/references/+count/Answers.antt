@@ -1,9 +1,10 @@
 -- The references of each kind of statement.
-use Rattle.std.proofs.Common.{◌≡◌, ◌∙◌, ◌+◌, ◌∷◌, [], ap, sym, subst, map, take, length}
+use Rattle.std.proofs.Common.{◌≡◌, ◌∙◌, ◌+◌, ◌∷◌, [], refl, ap, sym, subst, map, take, length, true, false}
 use Rattle.species_ast.specs.declared.tree.Loop.{out-Loop}
 use Rattle.species_ast.specs.declared.tree.Stmt.TheVariants as stmt
 use Rattle.species_ast.specs.declared.tree.Expr.{Expr}
 use Rattle.species_ast.specs.Scope.Loops.{entered}
+use Rattle.species_ast.specs.Scope.Hulls.{has_empty}
 use Rattle.species_ast.specs.Scope.References.{perhaps, placed, in_turn, no_adds, stmt_references, list_references, unless_empty}
 use Rattle.species_ast.specs.Scope.WellMade.{made, list_keeps}
 use Rattle.species_scope.specs.Referenced.{Reached}
@@ -72,3 +73,23 @@ count_list-loop-stmt-preserved t c = record {
       (c.in_ok-count_stmt.ensures.found n there
       (subst (λ p. Reached p n there) (sym c.loop-stmt.invariant.same) (placed_reached c.args.path.now n g (k + before c.args.all.now c.loop-stmt.stmt-index) h)) parts.1);
 }
+
+pub count_loop-returns-clause-found : goal.count_loop-returns-clause-found
+count_loop-returns-clause-found t c n g h k =
+    let l = out-Loop c.args.head.now in
+    let keeps = kept_loop c.args.head.now n k in
+    let inside = reached_inside c.args.head.now c.args.path.now c.enter.new.path n g h keeps c.in_ok-enter.ensures.open in
+    loop_counted c.args.head.now c.enter.new.path c.args.count.now.references c.count_inside.new.count.references g (entered l n) inside
+    (subst (λ b. list_keeps (map made b) (entered l n) ≡ true → c.count_inside.new.count.references ≡ c.args.count.now.references + length (unless_empty 0 c.enter.new.path (list_references (map refers b) (in_turn g l) 0 0))) c.as_slice.ensures (c.in_ok-count_inside.ensures.found (entered l n) (in_turn g l) inside) keeps.inside)
+
+pub count_inside-returns-then-clause-found : goal.count_inside-returns-then-clause-found
+count_inside-returns-then-clause-found t c n g h k =
+    let path = c.args.path.now in
+    let empty : true ≡ has_empty path = sym c.if-is_empty.true ∙ c.is_empty.ensures ∙ ap has_empty c.as_slice.ensures.value in
+    unless_counted true path (list_references (map refers c.args.all.now) g 0 0) c.args.count.now.references c.args.count.now.references empty (λ e. refl) (λ e. absurd cc)
+
+pub count_inside-returns-clause-found : goal.count_inside-returns-clause-found
+count_inside-returns-clause-found t c n g h k =
+    let path = c.args.path.now in
+    let full : false ≡ has_empty path = sym c.if-is_empty.false ∙ c.is_empty.ensures ∙ ap has_empty c.as_slice.ensures.value in
+    unless_counted false path (list_references (map refers c.args.all.now) g 0 0) c.args.count.now.references c.count_list.new.count.references full (λ e. absurd cc) (λ e. c.in_ok-count_list.ensures.found n g 0 h k)

@@ -1,5 +1,6 @@
 -- What is found of each kind of statement.
-use Rattle.std.proofs.Common.{◌≡◌, ◌∙◌, ◌∷◌, [], ap, sym, subst, map, true}
+use Rattle.std.proofs.Common.{◌≡◌, ◌∙◌, ◌∷◌, [], refl, ap, sym, subst, map, true, nat_lt}
+use Rattle.species_ast.specs.declared.tree.Loop.{out-Loop}
 use Rattle.std.specs.List.{flat_map}
 use Rattle.species_ast.specs.Scope.Loops.{no_loops, outermost_in}
 use Rattle.species_ast.specs.Scope.WellMade.{made, list_keeps}
@@ -29,3 +30,9 @@ note_stmt-returns-in_ok-note_list-in-Block t c k =
     let keeps = kept_block i.body no_loops (sym (ap (λ x. (made x).keeps no_loops) i.is) ∙ k) in
     subst (λ b. list_keeps (map made b) no_loops ≡ true → c.note_list-in-Block.new.found ≡ kept c.args.found.now (large_in (flat_map outermost_in b))) c.as_slice-in-Block.ensures c.in_ok-note_list-in-Block.ensures keeps
     ∙ ap (λ l. kept c.args.found.now (large_in l)) (sym (in_block i.body) ∙ ap outermost_in (sym i.is))
+
+pub note_stmt-returns-in_ok-count-in-For : goal.note_stmt-returns-in_ok-count-in-For
+note_stmt-returns-in_ok-count-in-For t c k =
+    let i = c.in-For in
+    one_large c.args.stmt.now i.head c.in_ok-count.count (out-Loop i.head).place (nat_lt 512 c.in_ok-count.count) c.args.found.now c.note_if.new.found i.is
+    (c.in_ok-count.ensures (kept_for i.head no_loops (sym (ap (λ x. (made x).keeps no_loops) i.is) ∙ k))) refl refl c.note_if.ensures
