@@ -2,12 +2,14 @@
 use Rattle.std.proofs.Common.{◌≡◌, ◌∙◌, ap, sym, refl, subst, ℕ, ◌≤◌, ◌<◌, List, [], ◌++◌, length, Option, Some, None, Result, Ok, Err, ◌⊎◌, inl, inr, append-nil}
 use Rattle.species_ast.specs.Limits.{most_bytes}
 use Rattle.species_ast.specs.declared.tree.Unit.{Unit as Program}
+use Rattle.species_io.specs.Piecewise.{HandedOn}
 use Rattle.species_io.specs.Told.{before, AtEnd}
+use Rattle.species_lexer.specs.Fed.{Fed, IsFed}
 use Rattle.species_reading.specs.declared.refusal.ProgramRefusal.{ProgramRefusal}
 use Rattle.species_reading.specs.declared.refusal.ProgramRefusal.TheVariants.{Read, Scope, Memory}
 use Rattle.species_reading.specs.declared.refusal.InputRefusal.{InputRefusal}
 use Rattle.species_reading.specs.Answers.{Answers, IsUnlessMemory}
-use Rattle.species_reading.specs.Input.{in_input, WasRead, InputAnswers, IsUnlessStopped}
+use Rattle.species_reading.specs.Input.{in_input, IsFedText, WasRead, InputAnswers, IsUnlessStopped}
 use Rattle.species_reading.proofs.AnswerLemmas.{one_answer}
 
 same_bytes : (had left : Option (List ℕ)) (front bytes : List ℕ) → had ≡ before front left → AtEnd left → had ≡ Some bytes → front ≡ bytes
@@ -41,3 +43,20 @@ exact_told had left result w bytes answer h k =
     go a (Err (Scope r)) e (inl f) = inl (e ∙ ap in_input f)
     go a (Err (Scope r)) e (inr f) = inr (inr (e ∙ ap in_input f))
     go a (Err Memory) e f = tt
+
+-- what was handed on to a cutter of which nothing had come
+pub fed_text : (fed : Fed) (room after : ℕ) (had left : Option (List ℕ)) → HandedOn (IsFed fed) most_bytes room after [] had left → IsFedText fed
+fed_text fed room after had left (front, g, s, m, r) = (front, m, s)
+
+pub was_read : (fed : Fed) (room after : ℕ) (had left : Option (List ℕ)) (answer : Result Program ProgramRefusal) (result : Result Program InputRefusal)
+    → HandedOn (IsFed fed) most_bytes room after [] had left → AtEnd left → ((bytes : List ℕ) → IsFed fed bytes → Answers bytes answer) → result ≡ in_input answer
+    → WasRead had left result
+was_read fed room after had left answer result (front, g, s, m, r) end holds said = record {
+  bytes = front;
+  given = g;
+  whole = end;
+  short = s;
+  answer = answer;
+  holds = holds front m;
+  said = said;
+}

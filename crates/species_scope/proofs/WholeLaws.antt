@@ -32,7 +32,7 @@ use Rattle.species_scope.specs.declared.globals.Heads.{Heads}
 use Rattle.species_scope.specs.declared.units.Built.{Built}
 use Rattle.species_scope.specs.Formed.{forms_at, size_found, sizes_at}
 use Rattle.species_scope.specs.Built.{after_fragment}
-use Rattle.species_scope.specs.Whole.{heads_of, forms_of, whole_of, unit_groups}
+use Rattle.species_scope.specs.Whole.{heads_of, forms_of, whole_of, unit_groups, form_groups}
 use Rattle.species_scope.proofs.DeclaringLaws.{globals-iterators}
 
 -- ---- what is built
@@ -169,18 +169,25 @@ or_none (Some f) = refl
 pub by_references : (p : Program) (o : Option Finding) → first_in (refused_limits p) ≡ None → o ≡ first_in (refused_references p.unit) → o ≡ first_of_groups (unit_groups p)
 by_references p o l h = h ∙ sym (ap (λ z. or_later z (or_later (first_in (refused_references p.unit)) None)) l ∙ or_none (first_in (refused_references p.unit)))
 
+pub by_forms : (p : Program) (f : Finding) → first_in (refused_forms p) ≡ Some f → Some f ≡ first_of_groups (form_groups p)
+by_forms p f h = sym (ap (λ o. or_later o (first_of_groups (unit_groups p))) h)
+
+pub behind_forms : (p : Program) (o : Option Finding) → first_in (refused_forms p) ≡ None → o ≡ first_of_groups (unit_groups p) → o ≡ first_of_groups (form_groups p)
+behind_forms p o n h = h ∙ sym (ap (λ z. or_later z (first_of_groups (unit_groups p))) n)
+
 pub by_names : (p : Program) (f : Finding) → first_in (refused_names p) ≡ Some f → Some f ≡ refusal_of p
-by_names p f h = sym (ap (λ o. or_later o (or_later (first_in (refused_forms p)) (first_of_groups (unit_groups p)))) h)
+by_names p f h = sym (ap (λ o. or_later o (first_of_groups (form_groups p))) h)
 
-pub by_forms : (p : Program) (f : Finding) → first_in (refused_names p) ≡ None → first_in (refused_forms p) ≡ Some f → Some f ≡ refusal_of p
-by_forms p f n h =
-    sym (ap (λ o. or_later o (or_later (first_in (refused_forms p)) (first_of_groups (unit_groups p)))) n
-    ∙ ap (λ o. or_later o (first_of_groups (unit_groups p))) h)
+pub behind_names : (p : Program) (o : Option Finding) → first_in (refused_names p) ≡ None → o ≡ first_of_groups (form_groups p) → o ≡ refusal_of p
+behind_names p o n h = h ∙ sym (ap (λ z. or_later z (first_of_groups (form_groups p))) n)
 
-pub by_unit : (p : Program) (o : Option Finding) → first_in (refused_names p) ≡ None → first_in (refused_forms p) ≡ None → o ≡ first_of_groups (unit_groups p) → o ≡ refusal_of p
-by_unit p o n m h =
-    h ∙ sym (ap (λ z. or_later z (or_later (first_in (refused_forms p)) (first_of_groups (unit_groups p)))) n
-    ∙ ap (λ z. or_later z (first_of_groups (unit_groups p))) m)
+-- what is built is the program's
+pub built_of : (u : RawUnit) (b : Built) (places : List ℕ) → b ≡ whole_of u (taken_in u) → places ≡ b.places → IsBuilt (program_of u) b.unit places
+built_of u b places h e =
+    subst (IsBuilt (program_of u) b.unit) (sym e) (subst (λ (z : Built). IsBuilt (program_of u) z.unit z.places) (sym h) (is_built u))
+
+pub built_keeps : (u : RawUnit) (b : Built) → b ≡ whole_of u (taken_in u) → first_in (refused_limits (program_of u)) ≡ None → list_keeps (map made b.unit.body) no_loops ≡ true
+built_keeps u b h n = subst (λ (z : Built). list_keeps (map made z.unit.body) no_loops ≡ true) (sym h) (keeps_limits u n)
 
 -- ---- what is answered
 

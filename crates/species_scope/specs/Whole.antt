@@ -3,7 +3,7 @@ use Rattle.std.specs.Prelude.{ℕ, List, [], ◌∷◌, ◌++◌, map, flat_map,
 use Rattle.species_ast.specs.declared.raw.RawUnit.{RawUnit}
 use Rattle.species_ast.specs.Scope.Meanings.{Meaning, Declared, occurrence, scope_with}
 use Rattle.species_ast.specs.Scope.Refusals.{Finding}
-use Rattle.species_ast.specs.Scope.Conditions.{refused_limits, refused_references}
+use Rattle.species_ast.specs.Scope.Conditions.{refused_forms, refused_limits, refused_references}
 use Rattle.species_ast.specs.Scope.Programs.{Program, first_scope}
 use Rattle.species_lawful.specs.Walks.{walk_of}
 use Rattle.species_names.specs.Kept.{kept}
@@ -50,3 +50,7 @@ whole_of u its =
 -- what is refused of a program whose names and forms are lawful, in groups
 abbrev pub unit_groups : Program → List (List Finding)
 unit_groups p = refused_limits p ∷ refused_references p.unit ∷ []
+
+-- what is refused of a program whose names are lawful
+abbrev pub form_groups : Program → List (List Finding)
+form_groups p = refused_forms p ∷ unit_groups p

@@ -1,18 +1,20 @@
 //! Programs: the unit that one becomes, or the refusal that is reported.
 
-ghost use Rattle.std.specs.Prelude.{◌≡◌, [], IfOk};
+ghost use Rattle.std.specs.Prelude.{◌≡◌, [], true, map, IfOk};
 ghost use Rattle.std.specs.Option.{option_map};
 ghost use Rattle.species_ast.specs.declared.raw.RawUnit.{RawUnit};
 ghost use Rattle.species_ast.specs.Scope.Programs.{program_of};
 ghost use Rattle.species_ast.specs.Scope.Conditions as conditions;
-ghost use Rattle.species_ast.specs.Scope.Refusals.{first_of_groups};
+ghost use Rattle.species_ast.specs.Scope.Conditions.{refused_references};
+ghost use Rattle.species_ast.specs.Scope.Loops.{no_loops};
+ghost use Rattle.species_ast.specs.Scope.Refusals.{first_in, first_of_groups};
 ghost use Rattle.species_ast.specs.Scope.References.{HasReadSize};
-ghost use Rattle.species_ast.specs.Scope.WellMade.{IsWellMade};
+ghost use Rattle.species_ast.specs.Scope.WellMade.{made, list_keeps, IsWellMade};
 ghost use Rattle.species_ast.specs.Scope.Written.{IsWritten};
 ghost use Rattle.species_lawful.specs.Walks.{taken_in};
 ghost use Rattle.species_names.specs.Refused.{finding_seen};
 ghost use Rattle.species_scope.specs.Answers.{Answers};
-ghost use Rattle.species_scope.specs.Whole.{no_heads, heads_of, whole_of, unit_groups};
+ghost use Rattle.species_scope.specs.Whole.{no_heads, heads_of, whole_of, unit_groups, form_groups};
 
 use crate::builder::Builder;
 use crate::gathers::gather_all;
@@ -113,16 +115,37 @@ fn build(alloc: Global, raw: &RawUnit, taken: &[u32]) -> Result<Built, OutOfMemo
     })
 }
 
-/// The refusal that is reported of limits and marks, and where there is none of references.
+/// The refusal that is reported of array references, where the loops keep the other limits.
+fn refusal_of_references(alloc: Global, unit: &Unit) -> Result<Option<Finding>, OutOfMemory>
+    ensures { list_keeps (map made unit.now.body) no_loops ≡ true → IfOk result (λ f. option_map finding_seen f ≡ first_in (refused_references unit.now)) }
+{
+    let mut references = Findings::new();
+    note_references(alloc, unit, &mut references)?;
+    Ok(references.first())
+}
+
+/// The refusal that is reported of limits and marks, and where there is none, of references.
 fn refusal_of_unit(alloc: Global, built: &Built) -> Result<Option<Finding>, OutOfMemory>
     ensures { (u : RawUnit) → built.now ≡ whole_of u (taken_in u) → IfOk result (λ f. option_map finding_seen f ≡ first_of_groups (unit_groups (program_of u))) }
 {
     match first_limit(alloc, &built.unit, built.places.as_slice())? {
         Some(first) => Ok(Some(first)),
         None => {
-            let mut references = Findings::new();
-            note_references(alloc, &built.unit, &mut references)?;
-            Ok(references.first())
+            let found = refusal_of_references(alloc, &built.unit)?;
+            Ok(found)
+        }
+    }
+}
+
+/// The refusal that is reported of bounds, sizes and steps, and where there is none, of what follows.
+fn refusal_of_forms(alloc: Global, built: &Built) -> Result<Option<Finding>, OutOfMemory>
+    ensures { (u : RawUnit) → built.now ≡ whole_of u (taken_in u) → IfOk result (λ f. option_map finding_seen f ≡ first_of_groups (form_groups (program_of u))) }
+{
+    match built.forms.first() {
+        Some(first) => Ok(Some(first)),
+        None => {
+            let found = refusal_of_unit(alloc, built)?;
+            Ok(found)
         }
     }
 }
@@ -134,10 +157,10 @@ fn first_refusal(alloc: Global, built: &Built) -> Result<Option<Finding>, OutOfM
 {
     match built.found.first() {
         Some(first) => Ok(Some(first)),
-        None => match built.forms.first() {
-            Some(first) => Ok(Some(first)),
-            None => refusal_of_unit(alloc, built),
-        },
+        None => {
+            let found = refusal_of_forms(alloc, built)?;
+            Ok(found)
+        }
     }
 }
 

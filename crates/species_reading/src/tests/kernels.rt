@@ -160,7 +160,11 @@ fn compare_printed(rt: &impl Abort, alloc: Global, rows: &[(&str, &str)]) -> Res
 
 #[test]
 fn kernels_have_their_canonical_text(rt: HostRuntime) -> Result<(), Fail> {
-    compare_printed(&rt, rt.alloc(), &[(BLUR, BLUR_PRINTED), (SUMS, SUMS_PRINTED)])
+    compare_printed(
+        &rt,
+        rt.alloc(),
+        &[(BLUR, BLUR_PRINTED), (SUMS, SUMS_PRINTED)],
+    )
 }
 
 #[test]
