@@ -94,7 +94,7 @@ three_counted e e' c a b c' a' b' old one two new is sums gc ga gb hc ha hb =
     let second : (elements_of b').count ≡ (elements_of b).count = ap (λ (x : Expr). (elements_of x).count) gb in
     omega (arith, here, sums, zeroth, first, second, hc, ha, hb)
 
-none_plus : (n : ℕ) → n ≡ 0 + n
+pub none_plus : (n : ℕ) → n ≡ 0 + n
 none_plus n = omega arith
 
 plus_none : (n : ℕ) → n + 0 ≡ n

@@ -82,8 +82,8 @@ count_loop-returns-clause-found t c n g h k =
     loop_counted c.args.head.now c.enter.new.path c.args.count.now.references c.count_inside.new.count.references g (entered l n) inside
     (subst (λ b. list_keeps (map made b) (entered l n) ≡ true → c.count_inside.new.count.references ≡ c.args.count.now.references + length (unless_empty 0 c.enter.new.path (list_references (map refers b) (in_turn g l) 0 0))) c.as_slice.ensures (c.in_ok-count_inside.ensures.found (entered l n) (in_turn g l) inside) keeps.inside)
 
-pub count_inside-returns-then-clause-found : goal.count_inside-returns-then-clause-found
-count_inside-returns-then-clause-found t c n g h k =
+pub count_inside-returns-then-is_empty-clause-found : goal.count_inside-returns-then-is_empty-clause-found
+count_inside-returns-then-is_empty-clause-found t c n g h k =
     let path = c.args.path.now in
     let empty : true ≡ has_empty path = sym c.if-is_empty.true ∙ c.is_empty.ensures ∙ ap has_empty c.as_slice.ensures.value in
     unless_counted true path (list_references (map refers c.args.all.now) g 0 0) c.args.count.now.references c.args.count.now.references empty (λ e. refl) (λ e. absurd cc)

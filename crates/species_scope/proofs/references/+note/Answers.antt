@@ -34,5 +34,5 @@ note_stmt-returns-in_ok-note_list-in-Block t c k =
 pub note_stmt-returns-in_ok-count-in-For : goal.note_stmt-returns-in_ok-count-in-For
 note_stmt-returns-in_ok-count-in-For t c k =
     let i = c.in-For in
-    one_large c.args.stmt.now i.head c.in_ok-count.count (out-Loop i.head).place (nat_lt 512 c.in_ok-count.count) c.args.found.now c.note_if.new.found i.is
+    one_large c.args.stmt.now i.head c.in_ok-count.count (out-Loop i.head).place (nat_lt 512 c.in_ok-count.count) c.args.found.now c.note_if.new.self i.is
     (c.in_ok-count.ensures (kept_for i.head no_loops (sym (ap (λ x. (made x).keeps no_loops) i.is) ∙ k))) refl refl c.note_if.ensures
