@@ -8,3 +8,4 @@ mod DeclaringLaws
 mod WholeLaws
 mod CountLemmas
 mod LargeLemmas
+pub mod AnswerLaws

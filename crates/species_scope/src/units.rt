@@ -9,7 +9,8 @@ ghost use Rattle.species_ast.specs.Scope.Conditions.{refused_references};
 ghost use Rattle.species_ast.specs.Scope.Loops.{no_loops};
 ghost use Rattle.species_ast.specs.Scope.Refusals.{first_in, first_of_groups};
 ghost use Rattle.species_ast.specs.Scope.References.{HasReadSize};
-ghost use Rattle.species_ast.specs.Scope.WellMade.{made, list_keeps, IsWellMade};
+ghost use Rattle.species_ast.specs.Scope.WellMade.{IsWellMade};
+ghost use Rattle.species_ast.specs.Scope.WellMade as well_made;
 ghost use Rattle.species_ast.specs.Scope.Written.{IsWritten};
 ghost use Rattle.species_lawful.specs.Walks.{taken_in};
 ghost use Rattle.species_names.specs.Refused.{finding_seen};
@@ -117,7 +118,7 @@ fn build(alloc: Global, raw: &RawUnit, taken: &[u32]) -> Result<Built, OutOfMemo
 
 /// The refusal that is reported of array references, where the loops keep the other limits.
 fn refusal_of_references(alloc: Global, unit: &Unit) -> Result<Option<Finding>, OutOfMemory>
-    ensures { list_keeps (map made unit.now.body) no_loops ≡ true → IfOk result (λ f. option_map finding_seen f ≡ first_in (refused_references unit.now)) }
+    ensures { well_made.list_keeps (map well_made.made unit.now.body) no_loops ≡ true → IfOk result (λ f. option_map finding_seen f ≡ first_in (refused_references unit.now)) }
 {
     let mut references = Findings::new();
     note_references(alloc, unit, &mut references)?;
