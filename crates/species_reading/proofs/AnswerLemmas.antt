@@ -18,7 +18,7 @@ use Rattle.species_reading.specs.Answers.{IsUnread, IsResolved, IsOutOfScope, An
 -- ---- a text is refused in one way
 
 -- what is said of a text that is refused
-said : ReadRefusal → Verdict
+abbrev said : ReadRefusal → Verdict
 said (read.Lex r) = Verdict.refused_text r
 said (read.Load place) = Verdict.refused_load place
 said (read.Syntax place) = Verdict.refused_syntax place
@@ -30,7 +30,7 @@ said_of text (read.Load place) h = h
 said_of text (read.Syntax place) h = h
 said_of text read.Memory h = absurd h
 
-refusal_of_verdict : Verdict → ReadRefusal
+abbrev refusal_of_verdict : Verdict → ReadRefusal
 refusal_of_verdict (Verdict.refused_text r) = read.Lex r
 refusal_of_verdict (Verdict.refused_load place) = read.Load place
 refusal_of_verdict (Verdict.refused_syntax place) = read.Syntax place
@@ -62,7 +62,7 @@ no_resolution : (text : List ℕ) (r : ReadRefusal) (p : Result Program Finding)
 no_resolution text r p h (u, a, k) = no_tree text r u h a
 
 -- the finding of a refusal of names, forms or limits
-Found : List ℕ → ScopeRefusal → Type 0
+abbrev Found : List ℕ → ScopeRefusal → Type 0
 Found text r = (f : Finding) × (finding_of r ≡ Some f) × IsResolved text (Err f)
 
 found : (text : List ℕ) (r : ScopeRefusal) → IsOutOfScope text (finding_of r) → Found text r

@@ -7,7 +7,7 @@ use Rattle.species_scope.specs.declared.refusal.ScopeRefusal.{ScopeRefusal}
 use Rattle.species_scope.specs.declared.refusal.ScopeRefusal.TheVariants as code
 use Rattle.species_scope.specs.Answers.{finding_of}
 
-limit_back : Limit → code_limit.Limit
+abbrev limit_back : Limit → code_limit.Limit
 limit_back Limit.Loops = limit.Loops
 limit_back Limit.Dims = limit.Dims
 limit_back Limit.Elements = limit.Elements
@@ -16,7 +16,7 @@ limit_back Limit.Hull = limit.Hull
 limit_back Limit.Step = limit.Step
 limit_back Limit.Bound = limit.Bound
 
-refusal_back : Refusal → ℕ → ScopeRefusal
+abbrev refusal_back : Refusal → ℕ → ScopeRefusal
 refusal_back Refusal.Unknown p = code.Unknown p
 refusal_back Refusal.Duplicate p = code.Duplicate p
 refusal_back Refusal.DimensionCount p = code.DimensionCount p
@@ -27,7 +27,7 @@ refusal_back Refusal.BadStep p = code.BadStep p
 refusal_back Refusal.BadMark p = code.BadMark p
 refusal_back (Refusal.LimitPassed l) p = code.Limit (limit_back l) p
 
-back : Option Finding → ScopeRefusal
+abbrev back : Option Finding → ScopeRefusal
 back (Some f) = refusal_back f.refusal f.place
 back None = code.Memory
 
