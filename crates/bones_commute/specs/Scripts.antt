@@ -98,7 +98,7 @@ value_after join p (Plus q v ∷ s) c = value_after join p s (if element_eq p q 
 
 -- ---- scripts that fit, and scripts that are apart
 
--- Each answer is the value which the iteration itself left in the element, or else the element's value in these arrays.
+-- A read is answered by what the iteration itself last left in the element, and before that by what these arrays have there.
 abbrev pub FitsFrom : Joins → Cells → List Act → Type 0
 FitsFrom join m [] = Unit {0}
 FitsFrom join m (Get p v ∷ s) = (cell m p ≡ v) × FitsFrom join m s
@@ -112,8 +112,7 @@ Fits join first ss = (k : ℕ) → FitsFrom join first (nth ss k)
 abbrev pub LeavesAlone : Element → List Act → Type 0
 LeavesAlone p s = (reads p s ≡ false) × (writes p s ≡ false)
 
--- No element that one iteration writes is read, written or added to by another, and no element to which is added is read or
--- written by any.
+-- Where one iteration writes an element, each other leaves it alone; where any adds to an element, none reads or writes it.
 pub record AreApart (ss : List (List Act)) : Type 0 where
   pub written : (j k : ℕ) (p : Element) → j ≢ k → writes p (nth ss j) ≡ true → (reads p (nth ss k) ≡ false) × (writes p (nth ss k) ≡ false) × (adds p (nth ss k) ≡ false)
   pub gathered : (j k : ℕ) (p : Element) → adds p (nth ss j) ≡ true → LeavesAlone p (nth ss k)
@@ -158,7 +157,7 @@ pub record Follows (join : Joins) (first : Cells) (ss : List (List Act)) (st : S
   pub sizes : map length st.cells ≡ map length first
   -- an element that an iteration writes has the last value that this one has written to it so far, or its first value
   pub written : (k : ℕ) (p : Element) → writes p (nth ss k) ≡ true → look st.cells p ≡ through (value_after join p (take (done_at st.turns k) (nth ss k))) (look first p)
-  -- an element to which is added has its first value joined with the values added so far
+  -- an element to which any adds has its first value, with which all that was added until now is joined
   pub gathered : (k : ℕ) (p : Element) → adds p (nth ss k) ≡ true → look st.cells p ≡ through (λ c. joined_with join p.array c (values_added p (past ss st.turns))) (look first p)
   -- each other element has its first value
   pub kept : (p : Element) → ((k : ℕ) → (writes p (nth ss k) ≡ false) × (adds p (nth ss k) ≡ false)) → look st.cells p ≡ look first p

@@ -24,7 +24,7 @@ impl Model for Template {
 /// Why a text is no template.
 #[derive(Clone, Copy, Debug, PartialEq, Eq)]
 pub enum TemplateRefusal {
-    /// The first hole that does not stand in the text as often as it has to.
+    /// The first hole that the text has too seldom or too often.
     Lacks(Hole),
     Memory,
 }
@@ -118,7 +118,7 @@ fn count_in(hole: Hole, text: &[u8]) -> usize
     count
 }
 
-/// The first hole that does not stand in the text as often as it has to.
+/// The first hole that the text has too seldom or too often.
 fn lacking(text: &[u8]) -> Option<Hole>
     ensures { result ≡ lacking text.now }
 {

@@ -29,7 +29,7 @@ keywords =
 abbrev pub is_keyword : List ℕ → Bool
 is_keyword bytes = list_any (pointwise nat_eq bytes) keywords
 
--- a letter or `_`, then letters, digits and `_`, and no keyword
+-- letters, digits and `_`, the first of them no digit, and no keyword
 abbrev pub is_name : List ℕ → Bool
 is_name [] = false
 is_name (b ∷ bs) = is_letter b && (list_all is_word bs && not (is_keyword (b ∷ bs)))

@@ -25,6 +25,6 @@ strip_loop keep_lines = fold-Loop Stmt Loop strip_step (strip_layer keep_lines)
 abbrev pub strip_of : Bool → Unit → Unit
 strip_of keep_lines u = record u { body = map (strip_stmt keep_lines) u.body }
 
--- the source of a unit: the unit without parallel marks, atomic marks and species lines
+-- the source of a unit: species lines and marks, parallel and atomic, are taken from it
 abbrev pub source_of : Unit → Unit
 source_of u = strip_of false u

@@ -1,4 +1,4 @@
-//! Numbers as words: `0`, or digits that do not begin with 0.
+//! Numbers as words: digits, of which the first is 0 only where it stands alone.
 #![tactic(auto)]
 
 ghost use Rattle.std.specs.Prelude.{◌≡◌, ◌↔◌, ◌≤◌, ◌<◌, ℕ, length, slice_index, decimal, Some, IfSome, IsTrue};

@@ -150,7 +150,7 @@ fn note_loop(
     })
 }
 
-/// Hull and Bound are asked of a loop only where none around it passes a limit.
+/// Hull and Bound are asked of no loop that stands within one which passes a limit.
 fn unless_passed(at: At, passes: bool) -> bool
     ensures { result ≡ (not at.passed && passes) }
 {

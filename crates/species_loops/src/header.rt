@@ -166,7 +166,7 @@ pub(crate) fn has_empty(path: &[LoopRange]) -> bool
     false
 }
 
-/// The range from a constant to a constant: the far end is moved to the last value that is taken.
+/// The range from a constant to a constant: its far end becomes the last value taken.
 fn fixed_range(step: i32, first: i64, last: i64) -> LoopRange
     requires first { unsigned_abs first ≤ 2 ^ 32 }
     requires last { unsigned_abs last ≤ 2 ^ 32 }

@@ -11,8 +11,8 @@ use std::test::Fail;
 // ---- programs in postfix order. Expressions: a digit, `g` for 2147483647, `h` for 4294967295u and
 // `l` for 2147483647ll; the local `a`; the iterators `i`, `j` and `k`; elements of the arrays
 // `int A[64]`, `unsigned U[4]`, `long long L[4]` and `int X[n][n]`, `M[n][n]` and `O[n][n]`;
-// `+ - * / <`, `&` and `|` for `&&` and `||`, `?`, and `n` for a minus before its operand. The place of
-// a statement is that of its code.
+// `+ - * / <`, `&` and `|` for `&&` and `||`, `?`, and `n` for a minus before its operand. A statement
+// has the place of its code.
 
 #[derive(Drop)]
 struct Stacks {

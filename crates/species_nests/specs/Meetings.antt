@@ -49,7 +49,7 @@ nth xss k = slice_index_or xss k []
 abbrev pub Touches : Element → Direction → List Access → Type 0
 Touches e d xs = (x : Access) × Contains xs x × (x.element ≡ e) × (x.direction ≡ d)
 
--- Both access the element, and one of these accesses is a write or an add.
+-- Both access the element, and not both of these accesses are reads.
 abbrev pub Meet : Element → List Access → List Access → Type 0
 Meet e xs ys = (c d : Direction) × Touches e c xs × Touches e d ys × ((c ≢ Reads) ⊎ (d ≢ Reads))
 

@@ -67,7 +67,7 @@ dim_as_given d = record { at = d.at; a = d.a; b = d.b; stride = d.stride }
 abbrev pub arc_as_given : Arc → GivenArc
 arc_as_given a = record { array = Some a.array; dir = a.dir; dims = map dim_as_given a.dims; exact = a.exact; known = true }
 
--- The text of a parallel nest is read as its arcs: first the reads, then the writes and adds, each in their order. The text
+-- The text of a parallel nest is read as its arcs: the reads before the others, and both in the order that they had. The text
 -- of a sequential one is read as no arcs.
 pub record ReadsBack : Type 0 where
   pub parallel : (names : Names) (nest : Nest) → AreNames names.arrays → AreNames names.iters → AreDifferent names.arrays → AreDifferent names.iters →

@@ -124,7 +124,7 @@ each_some f (x ∷ xs) = option_and_then (λ y. option_map (λ ys. y ∷ ys) (ea
 abbrev pub is_range : RawRange → Bool
 is_range r = is_some (sums_of r.low) && is_some (sums_of r.high)
 
--- `element` has no offsets, every other word has them
+-- offsets go with each word but `element`
 abbrev pub offsets_of : Word → Option (List RawOffset) → List RawForm → Option (List RawOffset)
 offsets_of word.Element None fs = Some (map (λ f. None) fs)
 offsets_of word.Element (Some l) fs = None

@@ -46,7 +46,7 @@ Taken = ℕ × Option Part
 abbrev pub word_of_run : List ℕ → Option Taken
 word_of_run run = if is_keyword run then None else Some (length run, Some (part.Name run))
 
--- `0`, or digits that do not begin with 0
+-- digits, of which the first is 0 only where it stands alone
 abbrev pub number_of_run : List ℕ → Option Taken
 number_of_run run =
     let n = digits_value 10 run in

@@ -1,4 +1,4 @@
--- The place of an expression is that of its first token, and of a statement that of its first token after any pragma.
+-- An expression has the place of its first token, a statement that of its first token after any pragma.
 use Rattle.std.proofs.Common.{ap, sym, refl, subst, ℕ, suc, List, [], ◌∷◌, ◌++◌, Bool, append_assoc}
 use Rattle.species_ast.specs.Signs.{assignment_sign}
 use Rattle.species_ast.specs.Token.{Token}

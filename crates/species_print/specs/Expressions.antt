@@ -115,6 +115,6 @@ expr_step u iters (Expr-F.Or a b) = at_least or_level a ++ (spaced or_sign ++ at
 expr_step u iters (Expr-F.Cond c a b) = at_least (conditional_level + 1) c ++ (spaced (codes "?") ++ (a.1 ++ (spaced (codes ":") ++ b.1)))
 expr_step u iters (Expr-F.Cast k a) = punctuator "(" ∷ (kind_words k ++ punctuator ")" ∷ at_least cast_level a)
 
--- `iters` has the names of the loops around the expression, by level
+-- `iters` are the names of the iterators in scope, by level
 abbrev pub expr_printed : Unit → List (List ℕ) → Expr → List Printed
 expr_printed u iters = para-Expr (List Printed) (expr_step u iters)

@@ -48,7 +48,7 @@ abbrev pub loop_names : Unit → Loop-F (ℕ → Bool) (ℕ → Bool) → ℕ �
 loop_names u l levels =
     has_names u levels l.start && (has_names u (levels + 1) l.limit && list_all (λ s. s (levels + 1)) l.body)
 
--- Under so many loops, each array and local that the statement names is one of the unit, and each
+-- Under so many loops, the arrays and locals named in the statement are ones that the unit has, and each
 -- iterator is that of a loop around the place where it is named.
 abbrev pub IsNamed : Unit → ℕ → Stmt → Type 0
 IsNamed u levels s = IsTrue (fold-Stmt (ℕ → Bool) (ℕ → Bool) (stmt_names u) (loop_names u) s levels)

@@ -12,8 +12,8 @@ use species_ast::{Expr, LineText, Loop, Name, OutOfMemory, Stmt, Test, Unit};
 use sqlite_items::Items;
 use std::alloc::Global;
 
-/// Appends the canonical text of the statement, with its species lines and atomic lines and without
-/// parallel lines. `iters` has the names of the loops around it, outermost first, and `depth` is its
+/// Appends the canonical text of the statement: species lines and atomic lines are written, parallel
+/// lines are not. `iters` has the names of the loops around it, outermost first, and `depth` is its
 /// indentation in levels of four spaces.
 pub fn print_stmt(
     alloc: Global,

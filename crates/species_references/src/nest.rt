@@ -34,8 +34,8 @@ pub struct Reference {
     pub boxes: Boxes,
 }
 
-/// The references of the nest of a loop, of which the first `depth` loops are the band. `path` has the
-/// ranges of the loops around it, by level, and `ranges` those of all loops in it, in the order of the
+/// The references of the nest of a loop, of which the first `depth` loops are the band. `path` are the
+/// ranges of the loops outside, by level, and `ranges` those of all loops in it, in the order of the
 /// text. `+=` on an array of `gathered` is one add, and on any other a read and a write.
 pub fn references(
     alloc: Global,

@@ -22,7 +22,7 @@ pub enum Command {
 #[derive(Clone, Copy, Debug, PartialEq, Eq)]
 pub struct Usage;
 
-/// The command of a command line. The first word is the program's name, and is not looked at.
+/// The command of a command line. The first word, which names the program, may be any.
 pub fn read_words(words: &[String]) -> Result<Command, Usage>
     ensures command { (c : Command) → (result ≡ Ok c) ↔ IsCommandLine words.now c }
     ensures usage { IsErr result ↔ ((c : Command) → ¬ IsCommandLine words.now c) }

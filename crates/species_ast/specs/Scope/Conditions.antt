@@ -139,7 +139,7 @@ too_deep u = loops_where (λ x. is_too_deep x.stands.around.level) u
 abbrev pub too_far : Unit → List ℕ
 too_far u = loops_where (λ x. is_too_far (out-Loop x.head).step) u
 
--- LimitPassed(Hull) and LimitPassed(Bound): asked of a loop only where no loop around it passes these or Loops
+-- LimitPassed(Hull) and LimitPassed(Bound): asked of no loop that stands within one which passes these or Loops
 abbrev pub past_hull : Unit → List ℕ
 past_hull u = loops_where (λ x. not x.stands.passed && passes_hull x.stands.around.path (out-Loop x.head)) u
 

@@ -75,7 +75,7 @@ last_value step first last = first +ℤ pos (unsigned_abs (last -ℤ first) / un
 abbrev pub start_constant : Form → Option ℤ
 start_constant f = if is_constant f then Some f.constant else None
 
--- from a constant to a constant: the far end is moved to the last value that is taken, if there is one
+-- from a constant to a constant: its far end becomes the last value taken, if there is one
 abbrev pub fixed_range : ℤ → ℤ → ℤ → Range
 fixed_range (pos n) first last =
     record { low = first; high = if int_le first last then last_value (pos n) first last else last; step = pos n; start = Some first; fixed = true }
