@@ -1,6 +1,5 @@
 -- How many references statements and loops have.
-use Rattle.std.proofs.Common.{◌≡◌, ◌∙◌, refl, sym, ap, subst, arith, ℕ, zero, suc, ◌+◌, ◌-◌, ◌<◌, List, [], ◌∷◌, ◌++◌, map, take, length, get_or, Bool, true, false, ◌&&◌, not, nat_le, if◌then◌else◌, Option, Some, None, length-append}
-use Rattle.std.specs.List.{list_all}
+use Rattle.std.proofs.Common.{◌≡◌, ◌∙◌, refl, sym, ap, subst, arith, ℕ, zero, suc, ◌+◌, ◌<◌, List, [], ◌∷◌, ◌++◌, map, take, length, get_or, Bool, true, false, ◌&&◌, not, if◌then◌else◌, Some, None, length-append}
 use Rattle.std.proofs.lemmas.Bool.{and_parts}
 use Rattle.std.proofs.lemmas.Bool.Decides.{nat_tests}
 use Rattle.std.proofs.lemmas.List.{length-map, map-append, take_more}
@@ -15,11 +14,10 @@ use Rattle.species_ast.specs.declared.tree.Stmt.TheVariants as stmt
 use Rattle.species_ast.specs.declared.tree.Unary.{Unary}
 use Rattle.species_ast.specs.declared.tree.Value.{Value}
 use Rattle.species_ast.specs.Scope.Hulls.{Range, has_empty, range_of, passes_hull}
-use Rattle.species_ast.specs.Scope.Magnitudes.{passes_bound}
 use Rattle.species_ast.specs.Scope.Limits.{is_too_deep, is_too_far}
 use Rattle.species_ast.specs.Scope.Loops.{Nesting, no_loops, entered}
-use Rattle.species_ast.specs.Scope.Nests.{front_with, is_bad_mark}
-use Rattle.species_ast.specs.Scope.References.{Where, Reference, perhaps, placed, in_turn, Elements, all_elements, elements_at, elements_of, subscripts, no_adds, value_references, target_reference, Referring, list_references, references_at, references_inside, stmt_references, loop_references, unless_empty, reference_count}
+use Rattle.species_ast.specs.Scope.Nests.{front_with}
+use Rattle.species_ast.specs.Scope.References.{Where, Reference, perhaps, placed, in_turn, Elements, elements_at, elements_of, subscripts, no_adds, value_references, target_reference, Referring, list_references, references_at, references_inside, stmt_references, loop_references, unless_empty, reference_count}
 use Rattle.species_ast.specs.Accesses.{Writes, Reads}
 use Rattle.species_ast.specs.Scope.WellMade.{Made, made, made_at, made_loop, list_keeps, head_keeps, fronts_of}
 use Rattle.species_ast.proofs.Folds.{fold_stmt-Assign, fold_stmt-AddTo, fold_stmt-Declare, fold_stmt-SetLocal, fold_stmt-If, fold_stmt-For, fold_stmt-Block, fold_loop-out}
@@ -134,7 +132,7 @@ subs_length (e ∷ es) g n =
 
 -- ---- statements
 
-abbrev refers : Stmt → Referring
+abbrev pub refers : Stmt → Referring
 refers = stmt_references no_adds
 
 length_one : {X : Type 0} (xs : List X) (x : X) → length (xs ++ x ∷ []) ≡ length xs + 1

@@ -13,7 +13,7 @@ use Rattle.species_ast.specs.declared.raw.RawArray.{RawArray}
 use Rattle.species_ast.specs.declared.raw.RawItem.{RawItem}
 use Rattle.species_ast.specs.declared.raw.RawItem.TheVariants as item
 use Rattle.species_ast.specs.Grammar.Expressions.{place_of}
-use Rattle.species_ast.specs.Scope.Meanings.{Meaning, Scope, Declared, Occurrence, occurrence, scope_with}
+use Rattle.species_ast.specs.Scope.Meanings.{Meaning, Scope, Declared, occurrence, scope_with}
 use Rattle.species_ast.specs.Scope.Expressions.{ExprReading, reading, names_of}
 use Rattle.species_ast.specs.Scope.Refusals.{Refusal, Finding}
 use Rattle.species_ast.specs.Scope.Programs.{Size, SizeParts, ArrayParts, ArraySite, Globals, size_parts, size_in, extent, parts_of, globals_from, arrays_of, header_of}

@@ -1,7 +1,7 @@
 -- Outermost loops that have too many references.
 use Rattle.std.proofs.Common.{◌≡◌, ◌∙◌, refl, sym, ap, ℕ, ◌+◌, ◌<◌, List, [], ◌∷◌, ◌++◌, map, take, length, get_or, Bool, Option, nat_lt, append-nil}
 use Rattle.std.specs.List.{flat_map}
-use Rattle.std.proofs.lemmas.List.{map-append, take_more}
+use Rattle.std.proofs.lemmas.List.{take_more}
 use Rattle.std.proofs.lemmas.Grind.{flat_map-append}
 use Rattle.species_ast.specs.declared.tree.Expr.{Expr}
 use Rattle.species_ast.specs.declared.tree.Loop.{Loop, out-Loop}
@@ -13,7 +13,7 @@ use Rattle.species_ast.specs.Scope.Loops.{outermost_at, outermost_in, outermost_
 use Rattle.species_ast.specs.Scope.References.{reference_count}
 use Rattle.species_ast.specs.Scope.Refusals.{Limit, Refusal, Finding}
 use Rattle.species_ast.specs.Scope.Conditions.{refused_references}
-use Rattle.species_ast.proofs.Paras.{beside, para_stmt-If, para_stmt-For, para_stmt-Block}
+use Rattle.species_ast.proofs.Paras.{beside, para_stmt-Assign, para_stmt-AddTo, para_stmt-Declare, para_stmt-SetLocal, para_stmt-If, para_stmt-For, para_stmt-Block}
 use Rattle.species_names.specs.Kept.{kept, refused_if}
 use Rattle.species_names.proofs.KeptLaws.{kept-append}
 use Rattle.species_names.proofs.JoinLaws.{refused_where}
@@ -36,6 +36,18 @@ flat_seconds : (xs : List Stmt) → flat_map (λ (x : Stmt × List Loop). x.1) (
 flat_seconds [] = refl
 flat_seconds (x ∷ xs) = ap (λ l. outermost_in x ++ l) (flat_seconds xs)
 
+pub in_assign : (place array : ℕ) (subs : List Expr) (value : Expr) → outermost_in (stmt.Assign place array subs value) ≡ []
+in_assign place array subs value = para_stmt-Assign outermost_at (λ l. []) place array subs value
+
+pub in_add : (place array : ℕ) (subs : List Expr) (value : Expr) (atomic : Bool) → outermost_in (stmt.AddTo place array subs value atomic) ≡ []
+in_add place array subs value atomic = para_stmt-AddTo outermost_at (λ l. []) place array subs value atomic
+
+pub in_declare : (place local : ℕ) (init : Option Expr) → outermost_in (stmt.Declare place local init) ≡ []
+in_declare place local init = para_stmt-Declare outermost_at (λ l. []) place local init
+
+pub in_set : (place local : ℕ) (value : Expr) → outermost_in (stmt.SetLocal place local value) ≡ []
+in_set place local value = para_stmt-SetLocal outermost_at (λ l. []) place local value
+
 pub in_if : (place : ℕ) (test : Expr) (body otherwise : List Stmt) → outermost_in (stmt.If place test body otherwise) ≡ flat_map outermost_in body ++ flat_map outermost_in otherwise
 in_if place test body otherwise = para_stmt-If outermost_at (λ l. []) place test body otherwise ∙ (λ i. flat_seconds body i ++ flat_seconds otherwise i)
 
@@ -44,6 +56,9 @@ in_block body = para_stmt-Block outermost_at (λ l. []) body ∙ flat_seconds bo
 
 pub in_for : (l : Loop) → outermost_in (stmt.For l) ≡ l ∷ []
 in_for l = para_stmt-For outermost_at (λ l. []) l
+
+pub none_large : (s s' : Stmt) (old : Option Finding) → s ≡ s' → outermost_in s' ≡ [] → old ≡ kept old (large_in (outermost_in s))
+none_large s s' old is none = ap (λ l. kept old (large_in l)) (sym (ap outermost_in is ∙ none))
 
 pub two_large : (s : Stmt) (place : ℕ) (test : Expr) (body otherwise : List Stmt) (old mid new : Option Finding) → s ≡ stmt.If place test body otherwise
     → mid ≡ kept old (large_in (flat_map outermost_in body)) → new ≡ kept mid (large_in (flat_map outermost_in otherwise)) → new ≡ kept old (large_in (outermost_in s))

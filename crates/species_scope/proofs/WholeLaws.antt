@@ -1,26 +1,24 @@
 -- What is built of a whole program, and what is reported of it.
-use Rattle.std.proofs.Common.{◌≡◌, ◌∙◌, refl, sym, ap, subst, Ok, Err, ℕ, List, [], ◌∷◌, ◌++◌, map, Option, Some, None, Bool, true, false, not, ◌&&◌, append-nil}
+use Rattle.std.proofs.Common.{◌≡◌, ◌∙◌, refl, sym, ap, subst, Ok, Err, ℕ, List, [], ◌∷◌, ◌++◌, map, Option, Some, None, Bool, true, not, ◌&&◌}
 use Rattle.std.specs.Prelude.{is_none}
-use Rattle.std.specs.List.{flat_map, filter_map}
+use Rattle.std.specs.List.{flat_map}
 use Rattle.std.proofs.lemmas.List.{map-append}
-use Rattle.std.proofs.lemmas.Grind.{flat_map-append}
 use Rattle.species_ast.specs.declared.tree.Loop.{out-Loop}
 use Rattle.species_ast.specs.declared.tree.Stmt.{Stmt}
-use Rattle.species_ast.specs.declared.tree.Unit.{Unit as Tree}
 use Rattle.species_ast.specs.declared.raw.RawUnit.{RawUnit}
 use Rattle.species_ast.specs.Scope.Loops.{no_loops}
 use Rattle.species_ast.specs.Scope.Meanings.{Declared, occurrence}
 use Rattle.species_ast.specs.Scope.Refusals.{Refusal, Finding, first_in, or_later, first_of_groups, refused_at, places_where}
 use Rattle.species_ast.specs.Scope.Statements.{LoopSite, Fragment, in_order, stmt_fragment}
 use Rattle.species_ast.specs.Scope.Programs.{Size, ArraySite, Program, program_of, iterators_of, first_scope, arrays_of, globals_from}
-use Rattle.species_ast.specs.Scope.Conditions.{is_static, is_good_step, refused_names, refused_forms, refused_limits, refused_references, refused_arrays, refused_loops, refusal_of, unless_refused, resolved, bad_step, not_static}
+use Rattle.species_ast.specs.Scope.Conditions.{is_static, is_good_step, refused_names, refused_forms, refused_limits, refused_references, refused_arrays, refused_loops, refusal_of, unless_refused, resolved, bad_step}
 use Rattle.species_ast.specs.Scope.References.{HasReadSize}
 use Rattle.species_ast.specs.Scope.WellMade.{made, list_keeps, IsWellMade}
 use Rattle.species_ast.specs.Scope.Written.{IsWritten}
 use Rattle.species_lawful.proofs.LawfulLaws.{lawful_units_are_made}
 use Rattle.species_ast.proofs.FirstRefusal.{reports_the_first}
 use Rattle.species_ast.proofs.LimitLaws.{not_refused-keeps}
-use Rattle.species_lawful.specs.Walks.{walk_of, taken_in}
+use Rattle.species_lawful.specs.Walks.{taken_in}
 use Rattle.species_lawful.proofs.WalkLaws.{same_names, taken_in_body, body_scope}
 use Rattle.species_names.specs.Kept.{kept, refused_if}
 use Rattle.species_names.specs.Noted.{noted}
@@ -30,7 +28,7 @@ use Rattle.species_limits.specs.Built.{IsBuilt}
 use Rattle.species_scope.specs.declared.builder.Builder.{Builder}
 use Rattle.species_scope.specs.declared.globals.Heads.{Heads}
 use Rattle.species_scope.specs.declared.units.Built.{Built}
-use Rattle.species_scope.specs.Formed.{forms_at, size_found, sizes_at}
+use Rattle.species_scope.specs.Formed.{forms_at, sizes_at}
 use Rattle.species_scope.specs.Built.{after_fragment}
 use Rattle.species_scope.specs.Whole.{heads_of, forms_of, whole_of, unit_groups, form_groups}
 use Rattle.species_scope.proofs.DeclaringLaws.{globals-iterators}

@@ -1,11 +1,11 @@
 -- How many references loops have.
-use Rattle.std.specs.Prelude.{◌≡◌, ℕ, ◌+◌, nat_lt, List, map, flat_map, sum, length}
+use Rattle.std.specs.Prelude.{◌≡◌, ℕ, nat_lt, List, flat_map, length}
 use Rattle.species_ast.specs.declared.tree.Expr.{Expr}
 use Rattle.species_ast.specs.declared.tree.Loop.{Loop, out-Loop, fold-Loop}
 use Rattle.species_ast.specs.Scope.Hulls.{Range}
 use Rattle.species_ast.specs.Scope.Limits.{most_references}
 use Rattle.species_ast.specs.Scope.Loops.{Nesting}
-use Rattle.species_ast.specs.Scope.References.{Where, elements_of, subscripts, reference_count}
+use Rattle.species_ast.specs.Scope.References.{Where, subscripts, reference_count}
 use Rattle.species_ast.specs.Scope.Refusals.{Limit, Refusal, Finding}
 use Rattle.species_ast.specs.Scope.WellMade.{Made, made_at, made_loop}
 use Rattle.species_names.specs.Kept.{refused_if}

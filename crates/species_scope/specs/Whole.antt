@@ -1,5 +1,5 @@
 -- What is built of a whole program, where some locals are the iterators of loops.
-use Rattle.std.specs.Prelude.{ℕ, List, [], ◌∷◌, ◌++◌, map, flat_map, Option, None}
+use Rattle.std.specs.Prelude.{ℕ, List, [], ◌∷◌, ◌++◌, map, flat_map, None}
 use Rattle.species_ast.specs.declared.raw.RawUnit.{RawUnit}
 use Rattle.species_ast.specs.Scope.Meanings.{Meaning, Declared, occurrence, scope_with}
 use Rattle.species_ast.specs.Scope.Refusals.{Finding}

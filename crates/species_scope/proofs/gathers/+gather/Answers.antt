@@ -1,6 +1,5 @@
 -- What is found in each kind of statement.
 use Rattle.std.proofs.Common.{◌∙◌, ap, map, ◌++◌}
-use Rattle.species_ast.specs.declared.raw.RawLoop.{out-RawLoop}
 use Rattle.species_ast.specs.declared.raw.RawWhat.TheVariants as what
 use Rattle.species_ast.specs.Scope.Meanings.{behind}
 use Rattle.species_ast.specs.Scope.Programs.{iterators_of}

@@ -1,11 +1,10 @@
 -- The references of each kind of statement.
-use Rattle.std.proofs.Common.{◌≡◌, ◌∙◌, ◌+◌, ◌∷◌, [], refl, ap, sym, subst, map, take, length, true, false}
+use Rattle.std.proofs.Common.{◌≡◌, ◌∙◌, ◌+◌, refl, ap, sym, subst, map, length, true, false}
 use Rattle.species_ast.specs.declared.tree.Loop.{out-Loop}
 use Rattle.species_ast.specs.declared.tree.Stmt.TheVariants as stmt
-use Rattle.species_ast.specs.declared.tree.Expr.{Expr}
 use Rattle.species_ast.specs.Scope.Loops.{entered}
 use Rattle.species_ast.specs.Scope.Hulls.{has_empty}
-use Rattle.species_ast.specs.Scope.References.{perhaps, placed, in_turn, no_adds, stmt_references, list_references, unless_empty}
+use Rattle.species_ast.specs.Scope.References.{perhaps, placed, in_turn, list_references, unless_empty}
 use Rattle.species_ast.specs.Scope.WellMade.{made, list_keeps}
 use Rattle.species_scope.specs.Referenced.{Reached}
 use Rattle.species_scope.proofs.CountLemmas.{refers, before, assign_counted, add_counted, init_counted, no_init_counted, set_counted, if_counted, block_counted, for_counted, kept_if, kept_block, kept_for, kept_next, listed_next, placed_reached, perhaps_reached, kept_loop, reached_inside, loop_counted, unless_counted}
@@ -46,9 +45,9 @@ count_stmt-returns-in_ok-count_list-in-If-2-clause-found t c n g h k =
     let first = c.in_ok-count_list-in-If.ensures in
     let second = c.in_ok-count_list-in-If-2.ensures in
     let later = subst (λ p. Reached p n (perhaps g)) (sym first.same) there in
-    if_counted c.args.stmt.now i.place i.test i.body i.otherwise _ c.count_in-in-If.new.count.references c.count_list-in-If.new.count.references _ g i.is c.in_ok-count_in-in-If.ensures
-    (subst (λ b. list_keeps (map made b) n ≡ true → c.count_list-in-If.new.count.references ≡ c.count_in-in-If.new.count.references + length (list_references (map refers b) (perhaps g) 0 0)) c.as_slice-in-If.ensures (first.found n (perhaps g) 0 there) keeps.0)
-    (subst (λ b. list_keeps (map made b) n ≡ true → c.count_list-in-If-2.new.count.references ≡ c.count_list-in-If.new.count.references + length (list_references (map refers b) (perhaps g) (length (map refers i.body)) 0)) c.as_slice-in-If-2.ensures (second.found n (perhaps g) (length (map refers i.body)) later) keeps.1)
+    if_counted c.args.stmt.now i.place i.test i.body i.otherwise _ c.count_in-in-If.new.count.references c.count_list.new.count.references _ g i.is c.in_ok-count_in-in-If.ensures
+    (subst (λ b. list_keeps (map made b) n ≡ true → c.count_list.new.count.references ≡ c.count_in-in-If.new.count.references + length (list_references (map refers b) (perhaps g) 0 0)) c.as_slice-in-If.ensures (first.found n (perhaps g) 0 there) keeps.0)
+    (subst (λ b. list_keeps (map made b) n ≡ true → c.count_list-in-If.new.count.references ≡ c.count_list.new.count.references + length (list_references (map refers b) (perhaps g) (length (map refers i.body)) 0)) c.as_slice-in-If-2.ensures (second.found n (perhaps g) (length (map refers i.body)) later) keeps.1)
 
 pub count_stmt-returns-in_ok-count_list-in-Block-clause-found : goal.count_stmt-returns-in_ok-count_list-in-Block-clause-found
 count_stmt-returns-in_ok-count_list-in-Block-clause-found t c n g h k =

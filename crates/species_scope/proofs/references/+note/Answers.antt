@@ -1,5 +1,5 @@
 -- What is found of each kind of statement.
-use Rattle.std.proofs.Common.{◌≡◌, ◌∙◌, ◌∷◌, [], refl, ap, sym, subst, map, true, nat_lt}
+use Rattle.std.proofs.Common.{◌≡◌, ◌∙◌, refl, ap, sym, subst, map, true, nat_lt}
 use Rattle.species_ast.specs.declared.tree.Loop.{out-Loop}
 use Rattle.std.specs.List.{flat_map}
 use Rattle.species_ast.specs.Scope.Loops.{no_loops, outermost_in}
@@ -7,7 +7,7 @@ use Rattle.species_ast.specs.Scope.WellMade.{made, list_keeps}
 use Rattle.species_names.specs.Kept.{kept}
 use Rattle.species_scope.specs.Referenced.{large_in}
 use Rattle.species_scope.proofs.CountLemmas.{kept_if, kept_block, kept_for, kept_next}
-use Rattle.species_scope.proofs.LargeLemmas.{large_next, two_large, in_block, in_for, one_large}
+use Rattle.species_scope.proofs.LargeLemmas.{large_next, two_large, in_block, one_large, none_large, in_assign, in_add, in_declare, in_set}
 use Rattle.species_scope.proofs.references.+note.Goals as goal
 
 pub note_list-loop-stmt-preserved : goal.note_list-loop-stmt-preserved
@@ -34,5 +34,25 @@ note_stmt-returns-in_ok-note_list-in-Block t c k =
 pub note_stmt-returns-in_ok-count-in-For : goal.note_stmt-returns-in_ok-count-in-For
 note_stmt-returns-in_ok-count-in-For t c k =
     let i = c.in-For in
-    one_large c.args.stmt.now i.head c.in_ok-count.count (out-Loop i.head).place (nat_lt 512 c.in_ok-count.count) c.args.found.now c.note_if.new.self i.is
-    (c.in_ok-count.ensures (kept_for i.head no_loops (sym (ap (λ x. (made x).keeps no_loops) i.is) ∙ k))) refl refl c.note_if.ensures
+    one_large c.args.stmt.now i.head c.in_ok-count-in-For.count (out-Loop i.head).place (nat_lt 512 c.in_ok-count-in-For.count) c.args.found.now c.note_if.new.self i.is
+    (c.in_ok-count-in-For.ensures (kept_for i.head no_loops (sym (ap (λ x. (made x).keeps no_loops) i.is) ∙ k))) refl refl c.note_if.ensures
+
+pub note_stmt-returns-in-Assign : goal.note_stmt-returns-in-Assign
+note_stmt-returns-in-Assign t c k =
+    let i = c.in-Assign in
+    none_large c.args.stmt.now _ c.args.found.now i.is (in_assign i.place i.array i.subs i.value)
+
+pub note_stmt-returns-in-AddTo : goal.note_stmt-returns-in-AddTo
+note_stmt-returns-in-AddTo t c k =
+    let i = c.in-AddTo in
+    none_large c.args.stmt.now _ c.args.found.now i.is (in_add i.place i.array i.subs i.value i.atomic)
+
+pub note_stmt-returns-in-Declare : goal.note_stmt-returns-in-Declare
+note_stmt-returns-in-Declare t c k =
+    let i = c.in-Declare in
+    none_large c.args.stmt.now _ c.args.found.now i.is (in_declare i.place i.local i.init)
+
+pub note_stmt-returns-in-SetLocal : goal.note_stmt-returns-in-SetLocal
+note_stmt-returns-in-SetLocal t c k =
+    let i = c.in-SetLocal in
+    none_large c.args.stmt.now _ c.args.found.now i.is (in_set i.place i.local i.value)

@@ -1,5 +1,5 @@
 -- The references of an outermost loop.
-use Rattle.std.proofs.Common.{◌≡◌, ◌∙◌, ◌+◌, sym, ap, subst, map, length, true}
+use Rattle.std.proofs.Common.{◌≡◌, ◌∙◌, ◌+◌, sym, subst, map, length, true}
 use Rattle.species_ast.specs.declared.tree.Loop.{out-Loop}
 use Rattle.species_ast.specs.Scope.Loops.{no_loops, entered}
 use Rattle.species_ast.specs.Scope.References.{in_turn, list_references}

@@ -1,5 +1,5 @@
 -- The refusal of bounds, sizes and steps, or of what follows.
-use Rattle.std.proofs.Common.{◌≡◌, ◌∙◌, sym, ap, None}
+use Rattle.std.proofs.Common.{◌∙◌, sym, ap}
 use Rattle.std.specs.Option.{option_map}
 use Rattle.species_ast.specs.Scope.Programs.{program_of}
 use Rattle.species_names.specs.Refused.{finding_seen}

@@ -17,22 +17,22 @@ returns-in-Some-clause-answers c =
     let refused : Some (finding_seen c.in-Some.finding) ≡ refusal_of (program_of u) = ap (option_map finding_seen) (sym c.in-Some.is) ∙ c.in_ok-finding.ensures u whole in
     subst (λ o. IsRefused o (resolved u)) (sym c.refusal_of.ensures) (answers_refused u (finding_seen c.in-Some.finding) refused)
 
-pub returns-in-None-clause-answers : goal.returns-in-None-clause-answers
-returns-in-None-clause-answers c =
+pub returns-clause-answers : goal.returns-clause-answers
+returns-clause-answers c =
     let u = c.args.raw.now in
     let whole : c.in_ok-built.built ≡ whole_of u (taken_in u) = c.in_ok-built.ensures ∙ ap (whole_of u) (c.as_slice.ensures ∙ c.in_ok-taken.ensures) in
     let none : None ≡ refusal_of (program_of u) = ap (option_map finding_seen) (sym c.in-None.is) ∙ c.in_ok-finding.ensures u whole in
     answers_lawful u c.in_ok-built.built whole none
 
-pub returns-in-None-clause-made : goal.returns-in-None-clause-made
-returns-in-None-clause-made c =
+pub returns-clause-made : goal.returns-clause-made
+returns-clause-made c =
     let u = c.args.raw.now in
     let whole : c.in_ok-built.built ≡ whole_of u (taken_in u) = c.in_ok-built.ensures ∙ ap (whole_of u) (c.as_slice.ensures ∙ c.in_ok-taken.ensures) in
     let none : None ≡ refusal_of (program_of u) = ap (option_map finding_seen) (sym c.in-None.is) ∙ c.in_ok-finding.ensures u whole in
     made_well u c.in_ok-built.built c.requires whole none
 
-pub returns-in-None-clause-size : goal.returns-in-None-clause-size
-returns-in-None-clause-size c =
+pub returns-clause-size : goal.returns-clause-size
+returns-clause-size c =
     let u = c.args.raw.now in
     let whole : c.in_ok-built.built ≡ whole_of u (taken_in u) = c.in_ok-built.ensures ∙ ap (whole_of u) (c.as_slice.ensures ∙ c.in_ok-taken.ensures) in
     let none : None ≡ refusal_of (program_of u) = ap (option_map finding_seen) (sym c.in-None.is) ∙ c.in_ok-finding.ensures u whole in
