@@ -1,0 +1,10 @@
+pub mod Readings
+pub mod Targets
+pub mod Inits
+pub mod Formed
+pub mod Loops
+pub mod Built
+pub mod Declaring
+pub mod Whole
+pub mod Answers
+pub mod Referenced
