@@ -1,3 +1,0 @@
-mod AnswerLemmas
-mod ReadLemmas
-mod InputLemmas
