@@ -21,7 +21,7 @@ folder = sys.argv[1]
 limit = 4194304
 
 def program(size):
-    """A one-loop program of nearly this many bytes: arrays fill it, 512 elements stand in its loop."""
+    """A program of nearly this many bytes: arrays fill it, 512 elements stand in its one loop."""
     loop = "void kernel(void) {\n    for (int i = 1073741823; i < 1073741824; i++) {\n"
     body = ""
     for k in range(8):
@@ -41,8 +41,8 @@ for mib in (1, 2, 4):
     text = program(mib * 1048576)
     assert len(text) <= limit
     open(f"{folder}/accepted-{mib}.c", "w").write(text)
-    # refused at its end: the last line feed is a blank
-    open(f"{folder}/refused-{mib}.c", "w").write(text[:-1] + " ")
+    # refused at its end: the last bracket is a blank
+    open(f"{folder}/refused-{mib}.c", "w").write(text[:-2] + " \n")
 PY
 
 measure() { # COMMAND.. FILE: seconds and KiB

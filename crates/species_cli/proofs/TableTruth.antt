@@ -18,6 +18,7 @@ use Rattle.species_ast.specs.declared.tree.Stmt.TheVariants as stmt
 use Rattle.species_ast.specs.declared.tree.Test.{Test}
 use Rattle.species_ast.specs.declared.tree.Test.TheVariants as test
 use Rattle.species_integers.proofs.Products.{one_mul}
+use Rattle.species_reference.specs.declared.Dir.TheVariants as dir
 use Rattle.species_reference.specs.declared.FirstReference.{FirstReference}
 use Rattle.species_reference.specs.References.{Element, Access, value_at, subscript_value, elements_of, read_of, statement_accesses, statement_accesses_at, accesses_of, offset_of, reference_of, numbered, references_of}
 use Rattle.species_reference.specs.Shape.{is_literal, is_literal_at, is_iterator, is_iterator_at, is_sum, is_shift, is_shift_at, is_simple_subscripts, is_simple_value, is_simple_statement, is_simple_statement_at, is_less, is_simple_loop, is_simple_nest}
@@ -157,8 +158,11 @@ shifted_reads (e ∷ es) h = (h.0, shifted_reads es h.1)
 shifted_at_statement : (y : Stmt-F Stmt Loop) → is_simple_statement_at y ≡ true → AllShifted (statement_accesses_at y)
 shifted_at_statement (Stmt-F.Assign place array subs value) h =
     let parts = and_parts (is_simple_subscripts subs) (is_simple_value value) h in
-    subst (λ l. AllShifted (map read_of l ++ _)) (sym (eq.simple_subscripts_are_bare subs parts.0))
-    (shifted-append (map read_of (elements_of value)) _ (shifted_reads (elements_of value) (shifts_value value parts.1)) (has_shift subs parts.0, tt))
+    let last : List Access = record { dir = dir.Write; element = record { array = array; subscripts = subs } } ∷ [] in
+    let target : AllShifted last = (has_shift subs parts.0, tt) in
+    let behind : AllShifted (map read_of (elements_of value) ++ last) =
+    shifted-append (map read_of (elements_of value)) last (shifted_reads (elements_of value) (shifts_value value parts.1)) target in
+    subst (λ l. AllShifted (map read_of l ++ (map read_of (elements_of value) ++ last))) (sym (eq.simple_subscripts_are_bare subs parts.0)) behind
 shifted_at_statement (Stmt-F.AddTo place array subs value atomic) h = tt
 shifted_at_statement (Stmt-F.Declare place n init) h = tt
 shifted_at_statement (Stmt-F.SetLocal place n value) h = tt

@@ -26,6 +26,19 @@ pub partly_noted : (words : List (String Global)) (rose : Type 0) (bytes : List 
     → P ⊎ (IsPartlyNoted words rose bytes old new × (out ≡ out) × fault)
 partly_noted words rose bytes status result line old new P fault h part rises out cut = inr ((status, line, h, part cut), refl, rises cut)
 
+-- what is said of an input that is not read
+
+pub said : (refusal kind : InputRefusal) (status result : ℕ) (line : List ℕ) (old new : Option (List ℕ)) → refusal ≡ kind → IsSaid kind status line
+    → (result ≡ status) ⊎ (result ≡ 5) → (result ≢ 5 → new ≡ then_bytes old line) → result ≢ 5
+    → (x : List ℕ) × IsSaid refusal result x × (new ≡ then_bytes old x)
+said refusal kind status result line old new is h (inl same) whole p =
+    (line, subst (λ s. IsSaid refusal s line) (sym same) (subst (λ r. IsSaid r status line) (sym is) h), whole p)
+said refusal kind status result line old new is h (inr cut) whole p = absurd (p cut)
+
+pub partly_said : (refusal kind : InputRefusal) (status result : ℕ) (line : List ℕ) (old new : Option (List ℕ)) → refusal ≡ kind → IsSaid kind status line
+    → (result ≡ 5 → TookPart old new line) → result ≡ 5 → (s : ℕ) × (x : List ℕ) × IsSaid refusal s x × TookPart old new x
+partly_said refusal kind status result line old new is h part cut = (status, line, subst (λ r. IsSaid r status line) (sym is) h, part cut)
+
 -- what is read of the bytes of an input
 
 pub longer : (limit : ℕ) (told : Option (List ℕ)) (bytes : List ℕ) → IsLonger limit told → told ≡ Some bytes → limit < length bytes
@@ -63,6 +76,12 @@ has_line words rose bytes refusal status line lawful fault h IsSaid.too_long = H
 has_line words rose bytes refusal status line lawful fault h IsSaid.read_fault = HasLine.read_fault lawful (fault refl)
 has_line words rose bytes refusal status line lawful fault h (IsSaid.program r l said) = HasLine.refused lawful l (refused_program bytes r l h said)
 
+pub partly_lined : (words : List (String Global)) (rose : Type 0) (bytes : List ℕ) (refusal : InputRefusal) (old new : Option (List ℕ)) → IsArcs words
+    → (refusal ≡ input.ReadFault → rose) → InputAnswers bytes (Err refusal) → ((s : ℕ) × (x : List ℕ) × IsSaid refusal s x × TookPart old new x)
+    → IsPartlyNoted words rose bytes old new
+partly_lined words rose bytes refusal old new lawful fault h (status, line, said, part) =
+    (status, line, has_line words rose bytes refusal status line lawful fault h said, part)
+
 -- with status 4 a read failed, and with status 1 another thing is said
 
 pub is_read_fault : (refusal : InputRefusal) (status : ℕ) (line : List ℕ) → status ≡ 4 → IsSaid refusal status line → refusal ≡ input.ReadFault
@@ -75,9 +94,12 @@ refused_line refusal status line h IsSaid.too_long = inl refl
 refused_line refusal status line h IsSaid.read_fault = absurd (omega (arith, h))
 refused_line refusal status line h (IsSaid.program r l said) = inr (inr (r, said))
 
+abbrev pub err : InputRefusal → Result Program InputRefusal
+err r = Err r
+
 -- with status 1 an input that is not too long was read to its end
 pub was_read : (refusal : InputRefusal) (status : ℕ) (line bytes : List ℕ) (had left : Option (List ℕ)) → status ≡ 1 → had ≡ Some bytes → length bytes ≤ most_bytes
-    → (Err {Program} {InputRefusal} refusal ≡ Err input.TooLong → IsLonger most_bytes had) → (IsOfProgram (Err refusal) → WasRead had left (Err refusal))
+    → (err refusal ≡ err input.TooLong → IsLonger most_bytes had) → (IsOfProgram (err refusal) → WasRead had left (err refusal))
     → IsSaid refusal status line → AtEnd left
 was_read refusal status line bytes had left h told short long read IsSaid.too_long = absurd (omega (arith, short, longer most_bytes had bytes (long refl) told))
 was_read refusal status line bytes had left h told short long read IsSaid.read_fault = absurd (omega (arith, h))

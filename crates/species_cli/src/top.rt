@@ -52,7 +52,7 @@ fn say<N: Sink>(notes: &mut N, line: &[u8], status: u8) -> u8
 fn refuse<N: Sink>(alloc: Global, notes: &mut N, refusal: InputRefusal) -> u8
     ensures statuses { (result ≡ status_refused) ⊎ ((result ≡ status_read_fault) ⊎ ((result ≡ status_write_fault) ⊎ (result ≡ status_memory))) }
     ensures said { result ≢ status_write_fault → result ≢ status_memory → (line : List ℕ) × IsSaid refusal result line × (N.taken notes.new ≡ then_bytes (N.taken notes.old) line) }
-    ensures silent { result ≡ status_memory → N.taken notes.new ≡ N.taken notes.old }
+    ensures silent { result ≡ status_memory → notes.new ≡ notes.old }
     ensures memory { refusal ≡ input_refusal.Memory → result ≡ status_memory }
     ensures part { result ≡ status_write_fault → (status : ℕ) × (line : List ℕ) × IsSaid refusal status line × TookPart (N.taken notes.old) (N.taken notes.new) line }
     ensures fault { result ≡ status_write_fault → Rose (N.faults notes.old) (N.faults notes.new) }
@@ -95,10 +95,10 @@ pub fn species<S: Source, K: Sink, N: Sink>(
     ensures read_all { result ≡ status_answered → AtEnd (S.left input.new) }
 
     // Every other status: nothing on `output`, and its line on `notes`.
-    ensures untouched { result ≢ status_answered → result ≢ status_write_fault → K.taken output.new ≡ K.taken output.old }
+    ensures untouched { result ≢ status_answered → result ≢ status_write_fault → output.new ≡ output.old }
     ensures noted { result ≢ status_answered → result ≢ status_write_fault → result ≢ status_memory → (bytes : List ℕ) → S.left input.old ≡ Some bytes
         → IsNoted words.now (Rose (S.faults input.old) (S.faults input.new)) bytes result (N.taken notes.old) (N.taken notes.new) }
-    ensures silent { (result ≡ status_answered) ⊎ (result ≡ status_memory) → N.taken notes.new ≡ N.taken notes.old }
+    ensures silent { (result ≡ status_answered) ⊎ (result ≡ status_memory) → notes.new ≡ notes.old }
 
     // Status 1: the line of a refusal, and where the input is not too long it was read to its end.
     ensures refused_line { result ≡ status_refused → IsRefusedOn (N.taken notes.old) (N.taken notes.new) }
