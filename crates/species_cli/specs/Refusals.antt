@@ -1,7 +1,6 @@
 -- The line of a refused input: the number of the refusal, its name, and its place, a byte of the input.
 use Rattle.std.specs.Prelude.{ℕ, List, ◌++◌, codes, decimal, Option, Some, None}
 use Rattle.std.specs.Option.{option_map}
-use Rattle.species_ast.specs.Limits.{most_bytes}
 use Rattle.species_ast.specs.Scope.Refusals.{Limit, Refusal, Finding, number}
 use Rattle.species_ast.specs.declared.token.LexRefusal.{LexRefusal}
 use Rattle.species_ast.specs.declared.token.LexRefusal.TheVariants as lex
@@ -61,8 +60,8 @@ refusal_line (program.Scope refusal) = option_map finding_line (finding_of refus
 refusal_line program.Memory = None
 
 abbrev pub too_long_line : List ℕ
-too_long_line = refused_line 18 (codes "TooLong") most_bytes
+too_long_line = codes "refused 18 TooLong at 4194304\n"
 
 -- the line of a lawful program whose table is not built yet
 abbrev pub not_built_line : List ℕ
-not_built_line = refused_line 19 (codes "NotBuilt") 0
+not_built_line = codes "refused 19 NotBuilt at 0\n"
