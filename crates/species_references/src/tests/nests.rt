@@ -1,13 +1,19 @@
 //! The references of nests, with ample memory.
 
+ghost use Rattle.std.specs.Prelude.{◌≡◌, pos, true, Some, [], ◌∷◌, length, IfOk};
+ghost use Rattle.species_ast.specs.Scope.References.{references_of};
+ghost use Rattle.species_references.specs.Ranges.{ranges_in_loop};
+ghost use Rattle.species_references.specs.References.{adds_of};
+
 use super::trees::{Sizes, unit};
-use crate::Reference;
 use crate::nest::resolved;
 use crate::occurrences::add_loop;
+use crate::{Reference, references};
 use species_affine::Subscript;
 use species_arcs::{Dir, Span};
-use species_ast::{Loop, OutOfMemory, Stmt, Unit};
-use species_linear::LoopRange;
+use species_ast::{Expr, Loop, Mark, Name, OutOfMemory, Stmt, Test, Unit, Value};
+use species_linear::{LoopRange, Ranges};
+use sqlite_items::Items;
 use std::alloc::Global;
 use std::process::Abort;
 use std::test::Fail;
@@ -329,4 +335,53 @@ fn references_of_nests(rt: HostRuntime) -> Result<(), Fail> {
     compare(&rt, rt.alloc(), &SUMS)?;
     compare(&rt, rt.alloc(), &LOOPS)?;
     compare(&rt, rt.alloc(), &CONDITIONS)
+}
+
+/// `for (int i = 0; i < 64; i++) A[i] = 5;`
+fn fives(alloc: Global) -> Result<Loop, OutOfMemory>
+    ensures range { IfOk result (λ l. ranges_in_loop l [] ≡ record { low = pos 0; high = pos 63; step = pos 1; start = Some (pos 0); fixed = true } ∷ []) }
+    ensures one { IfOk result (λ l. length (references_of (adds_of []) l [] [] 1) ≡ 1) }
+{
+    let mut subs = Items::new(alloc);
+    subs.push(Expr::Iter(0))?;
+    let mut body = Items::new(alloc);
+    body.push(Stmt::Assign {
+        place: 0,
+        array: 0,
+        subs,
+        value: Expr::Literal(Value::Int(5)),
+    })?;
+    Ok(Loop {
+        place: 0,
+        iter: Name::from_vec(Vec::new(alloc)),
+        start: Expr::Literal(Value::Int(0)),
+        test: Test::Lt,
+        limit: Expr::Literal(Value::Int(64)),
+        step: 1,
+        body,
+        line: None,
+        mark: Mark::Plain,
+    })
+}
+
+fn direct(alloc: Global) -> Result<String, OutOfMemory> {
+    let unit = unit(alloc, &[&[64]], "")?;
+    let mut ranges = Ranges::new(alloc);
+    ranges.push(LoopRange {
+        low: 0,
+        high: 63,
+        step: 1,
+        start: Some(0),
+        fixed: true,
+    })?;
+    let head = fives(alloc)?;
+    let found = references(alloc, &unit, &head, &[], &ranges, 1, &[])?;
+    text_of(alloc, found.as_slice())
+}
+
+#[test]
+fn references_of_a_loop(rt: HostRuntime) -> Result<(), Fail> {
+    let text = direct(rt.alloc())?;
+    assert_eq!(rt; text.as_str(), "write A[0+1i 0:0:1]");
+    Ok(())
 }
