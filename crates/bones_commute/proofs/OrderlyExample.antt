@@ -10,7 +10,7 @@ use Rattle.species_ast.specs.declared.tree.Expr.{Expr}
 use Rattle.species_ast.specs.declared.tree.Stmt.{Stmt, out-Stmt, out-roll-Stmt}
 use Rattle.species_ast.specs.declared.tree.Stmt.TheOpen.{Stmt-F, Loop-F}
 use Rattle.species_ast.specs.declared.tree.Stmt.TheVariants as stmt
-use Rattle.species_ast.specs.declared.tree.Loop.{Loop, roll-Loop, out-Loop}
+use Rattle.species_ast.specs.declared.tree.Loop.{Loop, roll-Loop, out-Loop, para-Loop}
 use Rattle.species_ast.specs.declared.tree.Mark.TheVariants.{Parallel}
 use Rattle.species_ast.specs.declared.tree.Schedule.TheVariants.{Static}
 use Rattle.species_ast.specs.declared.tree.Test.TheVariants.{Lt}
@@ -34,9 +34,9 @@ use Rattle.species_nests.specs.Effects.{adds_at, adds_taken}
 use Rattle.species_nests.specs.Meetings.{IsApart, MeetOnlyOn, AddsExactlyOn, nth, running_traces}
 use Rattle.species_nests.proofs.ApartLaws.{apart_of}
 use Rattle.species_nests.proofs.Inversion.{CameTo, came_to, reached_in, reached_nowhere, out-For}
-use Rattle.bones_meaning.specs.Courses.{course_of}
+use Rattle.bones_meaning.specs.Courses.{Part, Coursing, part_at, coursing_at, part, course_list, course_of}
 use Rattle.bones_meaning.specs.Gatherings.{sum_gatherings}
-use Rattle.bones_commute.specs.Orderly.{IsOrderlyRunning, IsOrderly, EveryPlayEnds}
+use Rattle.bones_commute.specs.Orderly.{IsOrderlyRunning, IsOrderly, EveryPlayEnds, ranks_of, SomeUnitIsOrderly}
 use Rattle.bones_commute.proofs.UnitLaws.{orderly_units_play}
 use Rattle.species_nests.proofs.SumLaws.{added_trade}
 
@@ -283,3 +283,20 @@ unit_made = record {
 
 pub every_play_ends : EveryPlayEnds sums (course_of sum_gatherings unit) start last
 every_play_ends = (orderly_units_play sums (λ a c v w. added_trade c v w) sum_gatherings unit start (first_frame unit) last unit_made unit_orderly (run_ends context refl)).0
+
+-- ---- its nest makes two accesses in each of its two turns
+
+abbrev nest : Context → Part
+nest w = part_at sum_gatherings w (Stmt-F.For (loop, para-Loop Part Coursing (part_at sum_gatherings w) (coursing_at w) loop))
+
+nest_is : (w : Context) → part sum_gatherings w (stmt.For loop) ≡ nest w
+nest_is w = para_stmt-For (part_at sum_gatherings w) (coursing_at w) loop
+
+nest_ranks : (w : Context) → w ≡ context → ranks_of sums (course_list (nest w ∷ []) [] 0 (first_frame unit)) start ≡ 4
+nest_ranks w same = simp folds (rw same refl)
+
+ranks : ranks_of sums (course_of sum_gatherings unit) start ≡ 4
+ranks = ap (λ p. ranks_of sums (course_list (p ∷ []) [] 0 (first_frame unit)) start) (nest_is context) ∙ nest_ranks context refl
+
+pub some_unit : SomeUnitIsOrderly
+some_unit = (unit, start, unit_made, unit_orderly, ranks)

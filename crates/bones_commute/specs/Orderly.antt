@@ -94,6 +94,10 @@ abbrev pub EveryInterleaving : Type 0
 EveryInterleaving = (u : Program) (m : Cells) (f : Frame) (last : Cells) → IsWellMade u → AreArraysOf u.arrays m → AddsTaken sums_take u → IsOrderly sums sum_gatherings u m
     → source_run sums (source_of u) m ≡ Ended f last → EveryPlayEnds sums (course_of sum_gatherings u) m last × CountsRanks sums sum_gatherings u m
 
+-- These laws are of something: a unit is well made and orderly, in whose run the iterations of parallel nests make four accesses.
+abbrev pub SomeUnitIsOrderly : Type 0
+SomeUnitIsOrderly = (u : Program) × (m : Cells) × IsWellMade u × IsOrderly sums sum_gatherings u m × (ranks_of sums (course_of sum_gatherings u) m ≡ 4)
+
 -- ---- the way there: a run of the course in which each nest can be played
 
 -- the iterations of a nest run from these arrays to those, and are apart
