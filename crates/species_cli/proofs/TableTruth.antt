@@ -1,7 +1,6 @@
 -- Each line of the table of a simple loop is true.
-use Rattle.std.proofs.Common.{◌≡◌, ◌∙◌, ap, sym, refl, arith, subst, ℕ, zero, suc, ◌+◌, Bool, true, false, ◌&&◌, ℤ, pos, ◌+ℤ◌, ◌-ℤ◌, ◌*ℤ◌, ◌≤ℤ◌, ◌<ℤ◌, List, [], ◌∷◌, ◌++◌, map, length, slice_get, Some}
+use Rattle.std.proofs.Common.{◌≡◌, ◌∙◌, ap, sym, refl, arith, subst, ℕ, zero, suc, ◌+◌, true, ◌&&◌, ℤ, pos, ◌+ℤ◌, ◌*ℤ◌, ◌≤ℤ◌, ◌<ℤ◌, List, [], ◌∷◌, ◌++◌, map, length, slice_get, Some}
 use Rattle.std.specs.List.{flat_map, list_all}
-use Rattle.std.specs.Ordering.{int_eq}
 use Rattle.std.proofs.lemmas.Bool.{and_parts}
 use Rattle.std.proofs.lemmas.Bool.Decides.{Decides-int_eq}
 use Rattle.std.proofs.lemmas.Int.{ints}
@@ -20,7 +19,7 @@ use Rattle.species_ast.specs.declared.tree.Test.TheVariants as test
 use Rattle.species_integers.proofs.Products.{one_mul}
 use Rattle.species_reference.specs.declared.Dir.TheVariants as dir
 use Rattle.species_reference.specs.declared.FirstReference.{FirstReference}
-use Rattle.species_reference.specs.References.{Element, Access, value_at, subscript_value, elements_of, read_of, statement_accesses, statement_accesses_at, accesses_of, offset_of, reference_of, numbered, references_of}
+use Rattle.species_reference.specs.References.{Element, Access, value_at, subscript_value, elements_of, read_of, statement_accesses, statement_accesses_at, accesses_of, offset_of, reference_of, numbered}
 use Rattle.species_reference.specs.Shape.{is_literal, is_literal_at, is_iterator, is_iterator_at, is_sum, is_shift, is_shift_at, is_simple_subscripts, is_simple_value, is_simple_statement, is_simple_statement_at, is_less, is_simple_loop, is_simple_nest}
 use Rattle.species_reference.proofs.Elements as eq
 use Rattle.species_reference.proofs.SeenLemmas.{not_simple, simple_body}

@@ -1,9 +1,9 @@
 -- What the top call leaves with each status.
-use Rattle.std.proofs.Common.{◌≡◌, ◌≢◌, ◌⊎◌, inl, inr, ◌∙◌, ap, sym, refl, subst, arith, ℕ, ◌≤◌, ◌<◌, Bool, true, false, List, length, Option, Some, None, Result, Ok, Err, String, Global}
+use Rattle.std.proofs.Common.{◌≡◌, ◌≢◌, ◌⊎◌, inl, inr, ◌∙◌, ap, sym, refl, subst, arith, ℕ, ◌≤◌, ◌<◌, true, false, List, length, Option, Some, Result, Ok, Err, String, Global}
 use Rattle.species_ast.specs.Limits.{most_bytes}
 use Rattle.species_ast.specs.declared.tree.Unit.{Unit as Program}
 use Rattle.species_io.specs.Told.{IsLonger, then_bytes, TookPart, AtEnd}
-use Rattle.species_reading.specs.Answers.{Answers, IsResolved}
+use Rattle.species_reading.specs.Answers.{Answers}
 use Rattle.species_reading.specs.Input.{IsOfProgram, WasRead, InputAnswers, IsUnlessStopped}
 use Rattle.species_reading.specs.declared.refusal.ProgramRefusal.{ProgramRefusal}
 use Rattle.species_reading.specs.declared.refusal.ProgramRefusal.TheVariants as program
@@ -12,7 +12,7 @@ use Rattle.species_reading.specs.declared.refusal.InputRefusal.TheVariants as in
 use Rattle.species_reference.specs.Shape.{has_simple_loops}
 use Rattle.species_cli.specs.Refusals.{refusal_line}
 use Rattle.species_cli.specs.Table.{table_of}
-use Rattle.species_cli.specs.Answer.{IsArcs, HasTable, IsNotBuilt, IsRefused, HasLine, IsNoted, IsPartlyNoted, IsPartlyAnswered, IsAnswered, IsRefusedOn, IsRefusedLine, IsSaid}
+use Rattle.species_cli.specs.Answer.{IsArcs, HasTable, IsNotBuilt, IsRefused, HasLine, IsNoted, IsPartlyNoted, IsPartlyAnswered, IsAnswered, IsRefusedLine, IsSaid}
 use Rattle.species_cli.proofs.TableTruth.{true_tables}
 
 pub noted : (words : List (String Global)) (rose : Type 0) (bytes : List ℕ) (status result : ℕ) (line : List ℕ) (old new : Option (List ℕ))

@@ -1,6 +1,6 @@
 -- What the top call answers: the words that it takes, the limit of its input, and what it writes with
 -- each status.
-use Rattle.std.specs.Prelude.{◌≡◌, ◌⊎◌, ℕ, ◌≤◌, ◌<◌, Bool, true, false, List, Option, Some, Ok, Err, length, codes, String}
+use Rattle.std.specs.Prelude.{◌≡◌, ◌⊎◌, ℕ, ◌≤◌, ◌<◌, true, false, List, Option, Some, Ok, Err, length, codes, String}
 use Rattle.std.specs.declared.alloc.Global.{Global}
 use Rattle.species_ast.specs.Limits.{most_bytes}
 use Rattle.species_ast.specs.declared.tree.Unit.{Unit as Program}

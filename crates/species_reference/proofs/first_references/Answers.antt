@@ -1,7 +1,6 @@
-use Rattle.std.proofs.Common.{rules, arith, ◌≡◌, ◌∙◌, ap, sym, true, length, map}
-use Rattle.std.specs.List.{flat_map, list_all}
-use Rattle.species_reference.specs.References.{accesses_of, statement_accesses}
-use Rattle.species_reference.specs.Seen.{seen_of}
+use Rattle.std.proofs.Common.{rules, ◌≡◌, ◌∙◌, ap, sym, true}
+use Rattle.std.specs.List.{list_all}
+use Rattle.species_reference.specs.References.{accesses_of}
 use Rattle.species_reference.specs.Shape.{is_simple_statement}
 use Rattle.species_reference.proofs.SeenLemmas.{simple_item, simple_body, seen_next, seen_all, given-seen}
 use Rattle.species_reference.proofs.first_references.Goals as goal

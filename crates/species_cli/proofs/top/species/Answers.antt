@@ -1,5 +1,4 @@
-use Rattle.std.proofs.Common.{rules, arith, ap, refl, inl, inr, ◌≡◌, ◌≢◌, true, false, Result}
-use Rattle.species_reading.specs.declared.refusal.InputRefusal.TheVariants as input
+use Rattle.std.proofs.Common.{rules, arith, ap, refl, inl, inr, ◌≡◌, ◌≢◌, true, false}
 use Rattle.species_reference.specs.Shape.{has_simple_loops}
 use Rattle.species_cli.specs.Answer.{IsArcs, HasLine, usage_line}
 use Rattle.species_cli.specs.Refusals.{not_built_line}

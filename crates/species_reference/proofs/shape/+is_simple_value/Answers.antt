@@ -1,4 +1,4 @@
-use Rattle.std.proofs.Common.{◌≡◌, ◌∙◌, ap, sym, ◌&&◌}
+use Rattle.std.proofs.Common.{◌∙◌, ap, sym, ◌&&◌}
 use Rattle.species_reference.specs.Shape.{is_simple_subscripts, is_simple_value}
 use Rattle.species_reference.proofs.Elements as eq
 use Rattle.species_reference.proofs.shape.+is_simple_value.Goals as goal
