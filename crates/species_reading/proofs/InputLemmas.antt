@@ -1,0 +1,115 @@
+-- What is answered of a source that tells its bytes.
+use Rattle.std.proofs.Common.{◌≡◌, ◌∙◌, ap, sym, refl, subst, arith, ℕ, ◌≤◌, ◌<◌, List, [], ◌++◌, length, Option, Some, None, Result, Ok, Err, ◌⊎◌, inl, inr, append-nil}
+use Rattle.std.specs.Prelude.{IfOk}
+use Rattle.species_ast.specs.Limits.{most_bytes}
+use Rattle.species_ast.specs.declared.tree.Unit.{Unit as Program}
+use Rattle.species_io.specs.Piecewise.{HandedOn}
+use Rattle.species_io.specs.Told.{before, AtEnd, IsLonger}
+use Rattle.species_lexer.specs.Fed.{Fed, IsFed}
+use Rattle.species_reading.specs.declared.refusal.ProgramRefusal.{ProgramRefusal}
+use Rattle.species_reading.specs.declared.refusal.ProgramRefusal.TheVariants.{Read, Scope, Memory}
+use Rattle.species_reading.specs.declared.refusal.InputRefusal.{InputRefusal}
+use Rattle.species_reading.specs.declared.refusal.InputRefusal.TheVariants as input
+use Rattle.species_reading.specs.Answers.{Answers, IsUnlessMemory}
+use Rattle.species_reading.specs.Input.{in_input, IsFedText, WasRead, InputAnswers, IsUnlessStopped}
+use Rattle.species_reading.proofs.AnswerLemmas.{one_answer}
+
+same_bytes : (had left : Option (List ℕ)) (front bytes : List ℕ) → had ≡ before front left → AtEnd left → had ≡ Some bytes → front ≡ bytes
+same_bytes had None front bytes g e h = let wrong : Path (Option (List ℕ)) None (Some bytes) = sym g ∙ h in absurd cc
+same_bytes had (Some rest) front bytes g e h =
+    let same : Path (Option (List ℕ)) (Some (front ++ rest)) (Some bytes) = sym g ∙ h in
+    sym (append-nil front) ∙ ap (λ r. front ++ r) (sym e) ∙ ap (λ (o : Option (List ℕ)). elim o [ Some x ↦ x | None ↦ bytes ]) same
+
+pub answers_told : (had left : Option (List ℕ)) (result : Result Program InputRefusal) → WasRead had left result → (bytes : List ℕ) → had ≡ Some bytes → InputAnswers bytes result
+answers_told had left result w bytes h =
+    let same = same_bytes had left w.bytes bytes w.given w.whole h in
+    subst (InputAnswers bytes) (sym w.said) (go w.answer (subst (λ b. length b ≤ most_bytes) same w.short) (subst (λ b. Answers b w.answer) same w.holds))
+  where
+    go : (a : Result Program ProgramRefusal) → length bytes ≤ most_bytes → Answers bytes a → InputAnswers bytes (in_input a)
+    go (Ok unit) s a = (s, a)
+    go (Err (Read r)) s a = (s, a)
+    go (Err (Scope r)) s a = (s, a)
+    go (Err Memory) s a = tt
+
+pub exact_told : (had left : Option (List ℕ)) (result : Result Program InputRefusal) → WasRead had left result
+    → (bytes : List ℕ) (answer : Result Program ProgramRefusal) → had ≡ Some bytes → Answers bytes answer → IsUnlessStopped result answer
+exact_told had left result w bytes answer h k =
+    let same = same_bytes had left w.bytes bytes w.given w.whole h in
+    go w.answer answer w.said (one_answer bytes w.answer answer (subst (λ b. Answers b w.answer) same w.holds) k)
+  where
+    go : (a b : Result Program ProgramRefusal) → result ≡ in_input a → IsUnlessMemory a b → IsUnlessStopped result b
+    go a (Ok unit) e (inl f) = inl (e ∙ ap in_input f)
+    go a (Ok unit) e (inr f) = inr (inr (e ∙ ap in_input f))
+    go a (Err (Read r)) e (inl f) = inl (e ∙ ap in_input f)
+    go a (Err (Read r)) e (inr f) = inr (inr (e ∙ ap in_input f))
+    go a (Err (Scope r)) e (inl f) = inl (e ∙ ap in_input f)
+    go a (Err (Scope r)) e (inr f) = inr (inr (e ∙ ap in_input f))
+    go a (Err Memory) e f = tt
+
+-- what was handed on to a cutter of which nothing had come
+pub fed_text : (fed : Fed) (room after : ℕ) (had left : Option (List ℕ)) → HandedOn (IsFed fed) most_bytes room after [] had left → IsFedText fed
+fed_text fed room after had left (front, g, s, m, r) = (front, m, s)
+
+pub was_read : (fed : Fed) (room after : ℕ) (had left : Option (List ℕ)) (answer : Result Program ProgramRefusal) (result : Result Program InputRefusal)
+    → HandedOn (IsFed fed) most_bytes room after [] had left → AtEnd left → ((bytes : List ℕ) → IsFed fed bytes → Answers bytes answer) → result ≡ in_input answer
+    → WasRead had left result
+was_read fed room after had left answer result (front, g, s, m, r) end holds said = record {
+  bytes = front;
+  given = g;
+  whole = end;
+  short = s;
+  answer = answer;
+  holds = holds front m;
+  said = said;
+}
+
+-- ---- where the source or memory stopped the reading
+
+pub not_longer : (had : Option (List ℕ)) (bytes : List ℕ) → IsLonger most_bytes had → had ≡ Some bytes → most_bytes < length bytes
+not_longer had bytes l h = subst (IsLonger most_bytes) h l
+
+pub not_too_long : (had : Option (List ℕ)) (bytes : List ℕ) (result : Result Program InputRefusal) (answer : Result Program ProgramRefusal)
+    → IsLonger most_bytes had → had ≡ Some bytes → length bytes ≤ most_bytes → IsUnlessStopped result answer
+not_too_long had bytes result answer l h s =
+    let more = not_longer had bytes l h in
+    let wrong : ⊥ = omega (arith, more, s) in
+    absurd wrong
+
+pub stopped_by_fault : (answer : Result Program ProgramRefusal) → IsUnlessStopped (Err input.ReadFault) answer
+stopped_by_fault (Ok unit) = inr (inl refl)
+stopped_by_fault (Err (Read r)) = inr (inl refl)
+stopped_by_fault (Err (Scope r)) = inr (inl refl)
+stopped_by_fault (Err Memory) = tt
+
+pub stopped_by_memory : (answer : Result Program ProgramRefusal) → IsUnlessStopped (Err input.Memory) answer
+stopped_by_memory (Ok unit) = inr (inr refl)
+stopped_by_memory (Err (Read r)) = inr (inr refl)
+stopped_by_memory (Err (Scope r)) = inr (inr refl)
+stopped_by_memory (Err Memory) = tt
+
+-- ---- an answer of a program is no other
+
+pub kept_in_input : (P : Program → Type 0) (answer : Result Program ProgramRefusal) (result : Result Program InputRefusal) → result ≡ in_input answer → IfOk answer P → IfOk result P
+kept_in_input P (Ok unit) result s h = subst (λ (r : Result Program InputRefusal). IfOk r P) (sym s) h
+kept_in_input P (Err (Read r)) result s h = subst (λ (r : Result Program InputRefusal). IfOk r P) (sym s) tt
+kept_in_input P (Err (Scope r)) result s h = subst (λ (r : Result Program InputRefusal). IfOk r P) (sym s) tt
+kept_in_input P (Err Memory) result s h = subst (λ (r : Result Program InputRefusal). IfOk r P) (sym s) tt
+
+abbrev Spoke : Result Program InputRefusal → Type 0
+Spoke (Ok unit) = Unit {0}
+Spoke (Err (input.Program r)) = Unit {0}
+Spoke (Err input.TooLong) = ⊥
+Spoke (Err input.ReadFault) = ⊥
+Spoke (Err input.Memory) = Unit {0}
+
+spoke : (answer : Result Program ProgramRefusal) → Spoke (in_input answer)
+spoke (Ok unit) = tt
+spoke (Err (Read r)) = tt
+spoke (Err (Scope r)) = tt
+spoke (Err Memory) = tt
+
+pub never_long : (answer : Result Program ProgramRefusal) (result : Result Program InputRefusal) → result ≡ in_input answer → result ≡ Err input.TooLong → ⊥
+never_long answer result s h = subst Spoke (sym s ∙ h) (spoke answer)
+
+pub never_fault : (answer : Result Program ProgramRefusal) (result : Result Program InputRefusal) → result ≡ in_input answer → result ≡ Err input.ReadFault → ⊥
+never_fault answer result s h = subst Spoke (sym s ∙ h) (spoke answer)

@@ -1,0 +1,3 @@
+mod AnswerLemmas
+mod ReadLemmas
+mod InputLemmas
