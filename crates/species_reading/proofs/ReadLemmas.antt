@@ -4,13 +4,13 @@ use Rattle.species_ast.specs.Limits.{most_bytes}
 use Rattle.species_ast.specs.Reading.{IsAccepted}
 use Rattle.species_ast.specs.Text.Stream.{stream_of}
 use Rattle.species_ast.specs.declared.raw.RawUnit.{RawUnit}
-use Rattle.species_ast.specs.declared.token.LexRefusal.{LexRefusal}
 use Rattle.species_ast.specs.declared.tree.Unit.{Unit as Program}
 use Rattle.species_ast.specs.Scope.Conditions.{resolved}
 use Rattle.species_ast.specs.Scope.Written.{IsWritten}
 use Rattle.species_ast.proofs.Cutting.{cuts_one_way}
-use Rattle.species_lexer.specs.Cut.{IsTableOf}
-use Rattle.species_lexer.specs.Entries.{Table}
+use Rattle.species_lexer.specs.Cut.{GivesTable}
+use Rattle.species_lexer.specs.declared.refusal.CutRefusal.{CutRefusal}
+use Rattle.species_lexer.specs.declared.refusal.CutRefusal.TheVariants as cut
 use Rattle.species_parser.specs.Parsed as parsed
 use Rattle.species_parser.specs.Tabled.{as_parsed}
 use Rattle.species_parser.specs.Tabled as tabled
@@ -23,7 +23,7 @@ use Rattle.species_scope.specs.declared.refusal.ScopeRefusal.TheVariants as code
 use Rattle.species_scope.specs.Answers as scope
 use Rattle.species_reading.specs.declared.refusal.ProgramRefusal.TheVariants.{Read, Scope, Memory}
 use Rattle.species_reading.specs.Answers.{Answers}
-use Rattle.species_reading.specs.Refusals.{of_text, of_scope}
+use Rattle.species_reading.specs.Refusals.{of_text, of_cut, of_scope}
 
 -- ---- names
 
@@ -50,5 +50,6 @@ text_refused text (read.Load p) h = h
 text_refused text (read.Syntax p) h = h
 text_refused text read.Memory h = tt
 
-pub cut_refused : (text : List ℕ) (r : LexRefusal) → (stream_of text).refusal ≡ Some r → Answers text (Err (Read (read.Lex r)))
-cut_refused text r h = (stream_of text, cuts_one_way.at_least_one text, h)
+pub cut_refused : (text : List ℕ) (r : CutRefusal) → GivesTable (Err r) text → Answers text (Err (of_cut r))
+cut_refused text (cut.Lex r) h = (stream_of text, cuts_one_way.at_least_one text, h)
+cut_refused text cut.Memory h = tt

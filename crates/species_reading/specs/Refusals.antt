@@ -1,4 +1,6 @@
 -- Refusals of the parts of reading, as refusals of a program: want of memory is the same in each.
+use Rattle.species_lexer.specs.declared.refusal.CutRefusal.{CutRefusal}
+use Rattle.species_lexer.specs.declared.refusal.CutRefusal.TheVariants as cut
 use Rattle.species_parser.specs.declared.refusal.ReadRefusal.{ReadRefusal}
 use Rattle.species_parser.specs.declared.refusal.ReadRefusal.TheVariants as read
 use Rattle.species_scope.specs.declared.refusal.ScopeRefusal.{ScopeRefusal}
@@ -11,6 +13,10 @@ of_text (read.Lex r) = Read (read.Lex r)
 of_text (read.Load place) = Read (read.Load place)
 of_text (read.Syntax place) = Read (read.Syntax place)
 of_text read.Memory = Memory
+
+abbrev pub of_cut : CutRefusal → ProgramRefusal
+of_cut (cut.Lex r) = Read (read.Lex r)
+of_cut cut.Memory = Memory
 
 abbrev pub of_scope : ScopeRefusal → ProgramRefusal
 of_scope (scope.Unknown place) = Scope (scope.Unknown place)

@@ -13,11 +13,11 @@ ghost use Rattle.species_reading.specs.Answers.{Answers};
 ghost use Rattle.species_reading.specs.Input.{IsOfText, IsFedText, in_input, IsOfProgram, WasRead, InputAnswers, IsUnlessStopped};
 
 use crate::program::resolved;
-use crate::refusal::{InputRefusal, ProgramRefusal, of_table};
+use crate::refusal::{InputRefusal, ProgramRefusal, of_cut, of_table};
 use species_ast::{MOST_BYTES, Unit};
 use species_io::{ReadAnswer, Source, read_each};
-use species_lexer::{CutRefusal, Cutter, TokenTable};
-use species_parser::{ReadRefusal, parse_table};
+use species_lexer::{Cutter, TokenTable};
+use species_parser::parse_table;
 use std::alloc::Global;
 
 /// What the tokens of a text become.
@@ -42,8 +42,7 @@ fn read_fed(alloc: Global, cutter: Cutter) -> Result<Unit, ProgramRefusal>
 {
     match cutter.finish() {
         Ok(table) => read_table(alloc, &table),
-        Err(CutRefusal::Lex(refusal)) => Err(ProgramRefusal::Read(ReadRefusal::Lex(refusal))),
-        Err(CutRefusal::Memory) => Err(ProgramRefusal::Memory),
+        Err(refusal) => Err(of_cut(refusal)),
     }
 }
 

@@ -4,6 +4,7 @@ ghost use Rattle.std.specs.Prelude.{◌≡◌};
 ghost use Rattle.species_parser.specs.Tabled as tabled;
 ghost use Rattle.species_reading.specs.Refusals as refusals;
 
+use species_lexer::CutRefusal;
 use species_parser::{ReadRefusal, TableRefusal};
 use species_scope::ScopeRefusal;
 use thiserror::Error;
@@ -46,6 +47,16 @@ pub(crate) fn of_text(refusal: ReadRefusal) -> ProgramRefusal
         ReadRefusal::Load(place) => ProgramRefusal::Read(ReadRefusal::Load(place)),
         ReadRefusal::Syntax(place) => ProgramRefusal::Read(ReadRefusal::Syntax(place)),
         ReadRefusal::Memory => ProgramRefusal::Memory,
+    }
+}
+
+/// A refusal of a text that is cut.
+pub(crate) fn of_cut(refusal: CutRefusal) -> ProgramRefusal
+    ensures { result ≡ refusals.of_cut refusal }
+{
+    match refusal {
+        CutRefusal::Lex(r) => ProgramRefusal::Read(ReadRefusal::Lex(r)),
+        CutRefusal::Memory => ProgramRefusal::Memory,
     }
 }
 

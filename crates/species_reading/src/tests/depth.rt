@@ -4,22 +4,22 @@ use std::alloc::Global;
 use std::process::Abort;
 use std::test::Fail;
 
-/// A program in which `open` and `close` stand so many times around a `1` or a `;`.
+/// A program in which `front` and `back` stand so many times around a `1` or a `;`.
 fn text_of(
     alloc: Global,
     value: bool,
-    open: &str,
-    close: &str,
+    front: &str,
+    back: &str,
     count: usize,
 ) -> Result<Vec<u8>, Fail> {
     let mut text = Vec::from_slice(alloc, b"int A[4]; void k(void) { ")?;
     text.extend_from_slice(if value { b"A[0] = " } else { b"" })?;
     for _ in 0..count {
-        text.extend_from_slice(open.as_bytes())?;
+        text.extend_from_slice(front.as_bytes())?;
     }
     text.extend_from_slice(if value { b"1" } else { b";" })?;
     for _ in 0..count {
-        text.extend_from_slice(close.as_bytes())?;
+        text.extend_from_slice(back.as_bytes())?;
     }
     text.extend_from_slice(if value { b"; }" } else { b" }" })?;
     Ok(text)
@@ -31,9 +31,9 @@ fn compare(
     value: bool,
     rows: &[(&str, &str, usize)],
 ) -> Result<(), Fail> {
-    for (open, close, count) in rows {
-        let text = text_of(alloc, value, open, close, *count)?;
-        assert!(rt; read(alloc, text.as_slice()).is_ok(), "at {open}");
+    for (front, back, count) in rows {
+        let text = text_of(alloc, value, front, back, *count)?;
+        assert!(rt; read(alloc, text.as_slice()).is_ok(), "at {front}");
     }
     Ok(())
 }

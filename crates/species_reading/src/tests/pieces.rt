@@ -45,10 +45,10 @@ fn compare(
 
 #[test]
 fn a_fault_comes_before_a_refusal(rt: HostRuntime) -> Result<(), Fail> {
-    let open = ProgramRefusal::Read(ReadRefusal::Lex(LexRefusal::OpenComment(10)));
+    let unclosed = ProgramRefusal::Read(ReadRefusal::Lex(LexRefusal::OpenComment(10)));
     let bad = ProgramRefusal::Read(ReadRefusal::Lex(LexRefusal::BadByte(10)));
     let rows = [
-        ("int A[4]; /* x", 1, 99, InputRefusal::Program(open)),
+        ("int A[4]; /* x", 1, 99, InputRefusal::Program(unclosed)),
         ("int A[4]; $", 4, 99, InputRefusal::Program(bad)),
         ("int A[4]; $", 4, 3, InputRefusal::ReadFault),
         ("int A[4]; $", 4, 0, InputRefusal::ReadFault),

@@ -5,8 +5,8 @@ use Rattle.species_reading.specs.Answers.{Answers}
 use Rattle.species_reading.proofs.ReadLemmas.{is_written, text_refused}
 use Rattle.species_reading.proofs.input.read_table.Goals as goal
 
-pub resolved-requires-in-Ok : goal.resolved-requires-in-Ok
-resolved-requires-in-Ok c =
+pub resolved-requires : goal.resolved-requires
+resolved-requires c =
     let text = c.requires in
     is_written text.0 c.in-Ok.raw text.2 (c.in-Ok.ensures.answers text.0 text.1)
 

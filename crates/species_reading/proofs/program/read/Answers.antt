@@ -4,8 +4,8 @@ use Rattle.species_reading.specs.Answers.{Answers}
 use Rattle.species_reading.proofs.ReadLemmas.{is_written, text_refused}
 use Rattle.species_reading.proofs.program.read.Goals as goal
 
-pub resolved-requires-in-Ok : goal.resolved-requires-in-Ok
-resolved-requires-in-Ok c = is_written c.args.bytes.now c.in-Ok.raw c.requires c.in-Ok.ensures.answers
+pub resolved-requires : goal.resolved-requires
+resolved-requires c = is_written c.args.bytes.now c.in-Ok.raw c.requires c.in-Ok.ensures.answers
 
 pub returns-in-Ok-clause-answers : goal.returns-in-Ok-clause-answers
 returns-in-Ok-clause-answers c = c.resolved.ensures.answers c.args.bytes.now c.in-Ok.ensures.answers
