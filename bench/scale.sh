@@ -1,6 +1,6 @@
 #!/usr/bin/env bash
 # How time and memory of `species arcs` grow with its input, beside `cat` and `gcc -fsyntax-only` on
-# the same bytes. Prints one line for each input: its size, seconds and peak memory of each, ratios.
+# the same bytes. Prints one line for each input: its size, seconds of processor and peak memory of each, ratios.
 # Usage: bench/scale.sh [FOLDER to keep the inputs in, else they are removed]
 set -eu
 top="$(CDPATH='' cd -- "$(dirname -- "$(readlink -f -- "${BASH_SOURCE[0]}")")/.." && pwd)"
@@ -21,7 +21,7 @@ folder = sys.argv[1]
 limit = 4194304
 
 def program(size):
-    """A one-loop program of nearly this many bytes: arrays fill it, 512 elements stand in its loop."""
+    """A program of nearly this many bytes: arrays fill it, 512 elements stand in its one loop."""
     loop = "void kernel(void) {\n    for (int i = 1073741823; i < 1073741824; i++) {\n"
     body = ""
     for k in range(8):
@@ -41,16 +41,16 @@ for mib in (1, 2, 4):
     text = program(mib * 1048576)
     assert len(text) <= limit
     open(f"{folder}/accepted-{mib}.c", "w").write(text)
-    # refused at its end: the last line feed is a blank
-    open(f"{folder}/refused-{mib}.c", "w").write(text[:-1] + " ")
+    # refused at its end: the last bracket is a blank
+    open(f"{folder}/refused-{mib}.c", "w").write(text[:-2] + " \n")
 PY
 
-measure() { # COMMAND.. FILE: seconds and KiB
+measure() { # COMMAND.. FILE: seconds of processor and KiB
     python3 - "$@" <<'PY'
-import resource, subprocess, sys, time
-begin = time.time()
+import resource, subprocess, sys
 subprocess.run(sys.argv[1:-1], stdin=open(sys.argv[-1]), stdout=subprocess.DEVNULL, stderr=subprocess.DEVNULL)
-print("%.3f %d" % (time.time() - begin, resource.getrusage(resource.RUSAGE_CHILDREN).ru_maxrss))
+used = resource.getrusage(resource.RUSAGE_CHILDREN)
+print("%.3f %d" % (used.ru_utime + used.ru_stime, used.ru_maxrss))
 PY
 }
 

@@ -1,3 +1,4 @@
+mod ActionsExample
 mod Elements
 mod Law
 mod Loops

@@ -1,4 +1,5 @@
 pub mod Answers
+pub mod Laws
 pub mod Places
 pub mod Tapes
 pub mod Walked

@@ -1,3 +1,4 @@
+//! The kinds of arrays, locals and expressions.
 ghost use Rattle.std.specs.Prelude.{◌≡◌};
 ghost use Rattle.species_ast.specs.Operators as operators;
 ghost use Rattle.species_ast.specs.Evaluation as evaluation;

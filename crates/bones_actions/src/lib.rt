@@ -8,6 +8,7 @@ mod arrays;
 mod expressions;
 mod frame;
 mod kinds;
+mod laws;
 mod locals;
 mod next;
 mod places;
@@ -16,6 +17,7 @@ mod tape;
 
 pub use arrays::apply;
 pub use frame::Frame;
+pub use laws::law_actions;
 pub use next::action_at;
 
 #[cfg(test)]

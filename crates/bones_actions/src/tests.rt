@@ -1,3 +1,4 @@
+//! The actions of single statements, where `i` is 1.
 use crate::Frame;
 use crate::statements::walk_scope;
 use crate::tape::{Stop, Tape};

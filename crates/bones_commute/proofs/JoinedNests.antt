@@ -18,7 +18,7 @@ use Rattle.species_nests.specs.Meetings.{IsApart, running_traces}
 use Rattle.species_nests.specs.Nests.{Placed, band, at_once, frames, frames_in, headers, source_iterations, arrays_of, then_all, run_all, traces}
 use Rattle.species_nests.proofs.NestLaws.{nest_is, KeepsFrames, keeps_frames, band_ran, headers_are, loops_own}
 use Rattle.bones_commute.specs.Joined.{both, pairs}
-use Rattle.bones_commute.specs.JoinedNests.{SameHeader, SameHeaders, IsSound, AreQuiet, Stands, nest_at, running_of, JoinedLoopsRun}
+use Rattle.bones_commute.specs.JoinedNests.{SameHeader, SameHeaders, IsSound, AreQuiet, Stands, nest_at, running_of, placed_accesses, JoinedLoopsRun}
 use Rattle.bones_commute.specs.Orderly.{CanBePlayed}
 use Rattle.bones_commute.proofs.BareLaws.{Alike, alike_then, alike_expr}
 use Rattle.bones_commute.proofs.JoinedBodies.{Frames, front_of, joined_iterations, joined_locals, joined_adds, all_fronts, all_placed}
@@ -204,7 +204,7 @@ joined_loops_run join trades gathers u d one two joined f g h first mid last joi
     ∙ joined_iterations takes w is.front a.body b.body c.at a.at f.locals front kept fs (frames_keep w a.loops f.locals f refl) in
     let locals : outer_locals_set c.body ≡ [] = ap outer_locals_set is.body ∙ joined_locals is.front b.body front.locals stays_two.locals in
     let adds : all_true (map (adds_taken takes w) c.body) ≡ true = ap (λ l. all_true (map (adds_taken takes w) l)) is.body ∙ joined_adds takes w is.front b.body front.adds stays_two.adds in
-    let can : CanBePlayed join (source_iterations w c (frames w c.loops f)) first last = subst (λ l. CanBePlayed join l first last) (sym all) played in
+    let can : CanBePlayed join (source_iterations w c (frames w c.loops f)) first last = subst (λ l. CanBePlayed join l first last) (sym all) played.can in
     let ends : run join (loop_of w joined.loop joined.at f) first ≡ Ended f last =
     ap (λ t. run join t first) (nest_is w d joined.loop joined.at f)
     ∙ band_ends join w c.loops (does_scope w c.body c.at 0) f.locals (keeps_frames w c.body f sound.fits locals c.at) f refl fs first last same_joined.0 can.runs in
@@ -213,6 +213,10 @@ joined_loops_run join trades gathers u d one two joined f g h first mid last joi
       ran_two.frame,
       record {
         ends = ends;
+        accesses =
+            ap placed_accesses (ran.own ∙ ap (λ l. traces join l first) all)
+            ∙ played.accesses
+            ∙ (λ i. placed_accesses (pairs (sym ran_one.own i) (sym own_two i)));
         orderly = record { joins = joins; locals = locals; adds = adds; apart = subst IsApart (sym ran.own) can.apart };
         played = subst (λ l. CanBePlayed join l first last) (sym (same_iterations takes w refl c (frames w c.loops f) locals adds)) can;
       },

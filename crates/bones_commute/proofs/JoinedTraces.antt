@@ -2,7 +2,7 @@
 use Rattle.std.proofs.Common.{◌≡◌, refl, ap, sym, ◌∙◌, subst, List, [], ◌∷◌, ◌++◌, map, Some}
 use Rattle.std.proofs.lemmas.List.{map-append}
 use Rattle.species_ast.specs.declared.tree.Value.{Value}
-use Rattle.species_ast.specs.Accesses.{Joins, Element, Cells, cell, Tree, Ret, Stop, Read, Write, Add, then_do, Ended, run, Reads, Writes, Adds, Access, access, accesses}
+use Rattle.species_ast.specs.Accesses.{Joins, Element, Cells, cell, Tree, Ret, Stop, Read, Write, Add, then_do, Ended, run, Reads, Writes, Adds, access, accesses}
 use Rattle.species_nests.specs.Nests.{arrays_of, run_all, then_traces, traces}
 use Rattle.bones_commute.specs.Scripts.{Act, Get, AreApart}
 use Rattle.bones_commute.specs.ScriptsOfRuns.{trace, left_by, scripts}
@@ -54,7 +54,7 @@ module _ (join : Joins) where
   later_traces p ps m x n h = ap (λ o. (accesses join) p m ∷ then_traces (arrays_of o) (traces join ps)) h
 
 module _ (join : Joins) (trades : Trades join) where
-  both_traces : {X : Type 0} (ps qs : List (Tree X)) (k m n end mid last : Cells) → run_all join (both ps qs) k ≡ Some end → run_all join ps m ≡ Some mid → run_all join qs n ≡ Some last
+  pub both_traces : {X : Type 0} (ps qs : List (Tree X)) (k m n end mid last : Cells) → run_all join (both ps qs) k ≡ Some end → run_all join ps m ≡ Some mid → run_all join qs n ≡ Some last
       → scripts join (both ps qs) k ≡ pairs (scripts join ps m) (scripts join qs n) → traces join (both ps qs) k ≡ pairs (traces join ps m) (traces join qs n)
   both_traces [] qs k m n end mid last r h g e = refl
   both_traces (p ∷ ps) [] k m n end mid last r h g e = refl
@@ -68,16 +68,16 @@ module _ (join : Joins) (trades : Trades join) where
       ∙ ap (λ l. (accesses join p m ++ (accesses join) q n) ∷ l) (both_traces ps qs _ _ _ end mid last a.2 b.2 c.2 (later_lists e))
       ∙ (λ i. pairs (sym (later_traces join p ps m b.0 _ b.1) i) (sym (later_traces join q qs n c.0 _ c.1) i))
 
-pub map_pairs : (xss yss : List (List Access)) → pairs (map (map act_of) xss) (map (map act_of) yss) ≡ map (map act_of) (pairs xss yss)
-map_pairs [] yss = refl
-map_pairs (xs ∷ xss) [] = refl
-map_pairs (xs ∷ xss) (ys ∷ yss) = λ i. sym (map-append act_of xs ys) i ∷ map_pairs xss yss i
+pub map_pairs : {A B : Type 0} (f : A → B) (xss yss : List (List A)) → pairs (map (map f) xss) (map (map f) yss) ≡ map (map f) (pairs xss yss)
+map_pairs f [] yss = refl
+map_pairs f (xs ∷ xss) [] = refl
+map_pairs f (xs ∷ xss) (ys ∷ yss) = λ i. sym (map-append f xs ys) i ∷ map_pairs f xss yss i
 
 -- the law
 pub joined_nests_run : JoinedNestsRun
 joined_nests_run join trades ps qs first mid last len h g apart =
     let same : pairs (scripts join ps first) (scripts join qs mid) ≡ map (map act_of) (pairs (traces join ps first) (traces join qs mid)) =
-    (λ i. pairs (scripts_are join ps first mid h i) (scripts_are join qs mid last g i)) ∙ map_pairs (traces join ps first) (traces join qs mid) in
+    (λ i. pairs (scripts_are join ps first mid h i) (scripts_are join qs mid last g i)) ∙ map_pairs act_of (traces join ps first) (traces join qs mid) in
     let r = joined_runs join trades ps qs first mid last len h g (subst AreApart (sym same) (are_apart (pairs (traces join ps first) (traces join qs mid)) apart)) in
     let all = both_traces join trades ps qs first first mid last mid last r.0 h g r.1 in
     record {

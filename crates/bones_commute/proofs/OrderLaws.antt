@@ -1,13 +1,13 @@
 -- Which orders are plays of a nest that can be played.
-use Rattle.std.proofs.Common.{◌≡◌, ℕ, zero, suc, ◌+◌, ◌≤◌, List, [], ◌∷◌, ◌++◌, length, map, Some, refl, ap, sym, ◌∙◌, subst, arith, nat_eq, Bool, true, false, length-append}
+use Rattle.std.proofs.Common.{◌≡◌, ℕ, zero, suc, ◌+◌, ◌≤◌, List, [], ◌∷◌, ◌++◌, length, map, refl, ap, sym, ◌∙◌, subst, arith, nat_eq, Bool, true, false, length-append}
 use Rattle.std.specs.Prelude.{if◌then◌else◌}
 use Rattle.species_ast.specs.Accesses.{Joins, Cells, Tree, run}
 use Rattle.species_ast.specs.Evaluation.{Frame}
-use Rattle.species_nests.specs.Nests.{arrays_of, then_all, run_all, traces}
+use Rattle.species_nests.specs.Nests.{traces}
 use Rattle.bones_commute.specs.Joined.{both, pairs}
 use Rattle.bones_commute.specs.Orders.{count_of, in_order, AnyOrderPlays, SourceOrderPlays, OrderOfTwoPlays}
 use Rattle.bones_commute.specs.Scripts.{Act, nth, AreApart}
-use Rattle.bones_commute.specs.ScriptsOfRuns.{trace, left_by, scripts, total}
+use Rattle.bones_commute.specs.ScriptsOfRuns.{left_by, scripts, total}
 use Rattle.bones_commute.proofs.Apart.{act_of, scripts_are, are_apart}
 use Rattle.bones_commute.proofs.JoinedLaws.{joined_runs}
 use Rattle.bones_commute.proofs.JoinedTraces.{map_pairs}
@@ -58,7 +58,7 @@ order_of_two_plays join trades ps qs first mid last len h g apart =
     let ss = scripts join ps first in
     let us = scripts join qs mid in
     let same : pairs ss us ≡ map (map act_of) (pairs (traces join ps first) (traces join qs mid)) =
-    (λ i. pairs (scripts_are join ps first mid h i) (scripts_are join qs mid last g i)) ∙ map_pairs (traces join ps first) (traces join qs mid) in
+    (λ i. pairs (scripts_are join ps first mid h i) (scripts_are join qs mid last g i)) ∙ map_pairs act_of (traces join ps first) (traces join qs mid) in
     let are : AreApart (pairs ss us) = subst AreApart (sym same) (are_apart (pairs (traces join ps first) (traces join qs mid)) apart) in
     let r = joined_runs join trades ps qs first mid last len h g are in
     let nest : NestRuns join (both ps qs) first last = (r.0, subst AreApart (sym r.1) are) in

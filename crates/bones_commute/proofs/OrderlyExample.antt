@@ -1,42 +1,48 @@
 -- A worked unit with a parallel nest that is orderly: `int A[2]; unsigned u[1];`, and in parallel
 -- `for (int i = 0; i < 2; i++) { A[i] = i; u[0] += 1; }`, where the sum is atomic.
-use Rattle.std.proofs.Common.{◌≡◌, refl, ap, sym, ◌∙◌, subst, arith, ℕ, zero, suc, ◌-◌, List, [], ◌∷◌, ◌++◌, map, flat_map, length, Some, Bool, true, false, pos, ◌⊎◌, inl, inr, ⊎_elim, lit<}
-use Rattle.std.specs.Prelude.{codes, nat_eq, nat_lt, ◌&&◌}
+use Rattle.std.proofs.Common.{◌≡◌, refl, ap, sym, ◌∙◌, subst, arith, ℕ, zero, suc, ◌-◌, List, [], ◌∷◌, ◌++◌, map, flat_map, length, Some, None, Bool, true, false, pos, ◌⊎◌, inl, inr, ⊎_elim, lit<}
+use Rattle.std.specs.Prelude.{codes, nat_eq, nat_lt, ◌&&◌, All}
+use Rattle.std.proofs.lemmas.List.Elements.{All-nil, All-cons}
 use Rattle.std.specs.List.{Contains}
 use Rattle.species_ast.specs.declared.tree.Kind.TheVariants as kind
+use Rattle.species_ast.specs.declared.tree.Kind.{Kind}
+use Rattle.species_ast.specs.declared.tree.Value.{Value}
 use Rattle.species_ast.specs.declared.tree.Value.TheVariants.{Int, Unsigned}
 use Rattle.species_ast.specs.declared.tree.Expr.TheVariants as expr
 use Rattle.species_ast.specs.declared.tree.Expr.{Expr}
-use Rattle.species_ast.specs.declared.tree.Stmt.{Stmt, out-Stmt, out-roll-Stmt}
+use Rattle.species_ast.specs.declared.tree.Stmt.{Stmt, roll-Stmt, out-Stmt, out-roll-Stmt}
 use Rattle.species_ast.specs.declared.tree.Stmt.TheOpen.{Stmt-F, Loop-F}
 use Rattle.species_ast.specs.declared.tree.Stmt.TheVariants as stmt
-use Rattle.species_ast.specs.declared.tree.Loop.{Loop, roll-Loop, out-Loop}
-use Rattle.species_ast.specs.declared.tree.Mark.TheVariants.{Parallel}
+use Rattle.species_ast.specs.declared.tree.Loop.{Loop, roll-Loop, out-Loop, para-Loop}
+use Rattle.species_ast.specs.declared.tree.Mark.TheVariants.{Parallel, Plain}
 use Rattle.species_ast.specs.declared.tree.Schedule.TheVariants.{Static}
 use Rattle.species_ast.specs.declared.tree.Test.TheVariants.{Lt}
 use Rattle.species_ast.specs.declared.tree.Unit.{Unit as Program}
 use Rattle.species_ast.specs.Marks.{all_true}
 use Rattle.species_ast.specs.Accesses.{sums, Cells, Element, Reads, Writes, Adds, Access, access, Site, Ended, run}
 use Rattle.species_ast.specs.Evaluation.{Frame, Context}
-use Rattle.species_ast.specs.Run.{source_context, first_frame, inside, does_list, sums_take, locals_in}
+use Rattle.species_ast.specs.Run.{AreArraysOf, source_context, source_run, first_frame, inside, does_list, sums_take, locals_in}
 use Rattle.species_ast.specs.Scope.Forms.{form_of}
 use Rattle.species_ast.specs.Scope.Limits.{most_references_made}
 use Rattle.species_ast.specs.Scope.Loops.{outermost_at, outermost_in, outermost_loops}
 use Rattle.species_ast.specs.Scope.References.{Where, Elements, elements_at, elements_of, all_elements, reference, Referring, no_adds, references_at, references_inside, stmt_references, reference_count, larger_than}
 use Rattle.species_ast.specs.Scope.Refusals.{places_where}
 use Rattle.species_ast.specs.Scope.WellMade.{IsWellMade}
+use Rattle.species_ast.specs.Operators.{kind_of, IsValue}
+use Rattle.species_ast.specs.Strip.{strip_step, strip_layer, strip_stmt, strip_loop, source_of}
+use Rattle.species_ast.proofs.Induction.{Each}
 use Rattle.species_ast.proofs.Folds.{fold_expr-Literal, fold_expr-Iter, fold_stmt-Assign, fold_stmt-AddTo, fold_stmt-For, fold_loop}
 use Rattle.species_ast.proofs.Paras.{para_expr-Literal, para_expr-Iter, para_stmt-Assign, para_stmt-AddTo, para_stmt-For, para_loop}
 use Rattle.species_ast.proofs.RunLaws.{folds, locals}
 use Rattle.species_runs.specs.Scopes.{sets_at, sets_of, without, outer_locals_set}
 use Rattle.species_nests.specs.Arrivals.{Running, moment, ComesIn, ComesTo}
-use Rattle.species_nests.specs.Effects.{adds_at, adds_taken}
+use Rattle.species_nests.specs.Effects.{adds_at, adds_taken, AddsTaken}
 use Rattle.species_nests.specs.Meetings.{IsApart, MeetOnlyOn, AddsExactlyOn, nth, running_traces}
 use Rattle.species_nests.proofs.ApartLaws.{apart_of}
 use Rattle.species_nests.proofs.Inversion.{CameTo, came_to, reached_in, reached_nowhere, out-For}
-use Rattle.bones_meaning.specs.Courses.{course_of}
+use Rattle.bones_meaning.specs.Courses.{Part, Coursing, part_at, coursing_at, part, course_list, course_of}
 use Rattle.bones_meaning.specs.Gatherings.{sum_gatherings}
-use Rattle.bones_commute.specs.Orderly.{IsOrderlyRunning, IsOrderly, EveryPlayEnds}
+use Rattle.bones_commute.specs.Orderly.{IsOrderlyRunning, IsOrderly, EveryPlayEnds, ranks_of, SomeUnitIsOrderly}
 use Rattle.bones_commute.proofs.UnitLaws.{orderly_units_play}
 use Rattle.species_nests.proofs.SumLaws.{added_trade}
 
@@ -283,3 +289,60 @@ unit_made = record {
 
 pub every_play_ends : EveryPlayEnds sums (course_of sum_gatherings unit) start last
 every_play_ends = (orderly_units_play sums (λ a c v w. added_trade c v w) sum_gatherings unit start (first_frame unit) last unit_made unit_orderly (run_ends context refl)).0
+
+-- ---- its nest makes two accesses in each of its two turns
+
+abbrev nest : Context → Part
+nest w = part_at sum_gatherings w (Stmt-F.For (loop, para-Loop Part Coursing (part_at sum_gatherings w) (coursing_at w) loop))
+
+nest_is : (w : Context) → part sum_gatherings w (stmt.For loop) ≡ nest w
+nest_is w = para_stmt-For (part_at sum_gatherings w) (coursing_at w) loop
+
+nest_ranks : (w : Context) → w ≡ context → ranks_of sums (course_list (nest w ∷ []) [] 0 (first_frame unit)) start ≡ 4
+nest_ranks w same = simp folds (rw same refl)
+
+ranks : ranks_of sums (course_of sum_gatherings unit) start ≡ 4
+ranks = ap (λ p. ranks_of sums (course_list (p ∷ []) [] 0 (first_frame unit)) start) (nest_is context) ∙ nest_ranks context refl
+
+-- ---- its source runs to the same arrays
+
+abbrev plain_sum : Stmt
+plain_sum = stmt.AddTo 30 1 (expr.Literal (Int (pos 0)) ∷ []) (expr.Literal (Int (pos 1))) false
+
+abbrev plain_loop : Loop
+plain_loop = roll-Loop (record head { body = assigned ∷ plain_sum ∷ []; line = None; mark = Plain })
+
+stripped : strip_stmt false (stmt.For loop) ≡ stmt.For plain_loop
+stripped =
+    let first : strip_stmt false assigned ≡ assigned =
+    fold_stmt-Assign strip_step (strip_layer false) 20 0 (expr.Iter 0 ∷ []) (expr.Iter 0) ∙ stmt.rolls-Assign 20 0 (expr.Iter 0 ∷ []) (expr.Iter 0) in
+    let second : strip_stmt false summed ≡ plain_sum =
+    fold_stmt-AddTo strip_step (strip_layer false) 30 1 (expr.Literal (Int (pos 0)) ∷ []) (expr.Literal (Int (pos 1))) true
+    ∙ stmt.rolls-AddTo 30 1 (expr.Literal (Int (pos 0)) ∷ []) (expr.Literal (Int (pos 1))) false in
+    let all : strip_loop false loop ≡ plain_loop = fold_loop strip_step (strip_layer false) head ∙ (λ i. strip_layer false (record head { body = first i ∷ second i ∷ [] })) in
+    fold_stmt-For strip_step (strip_layer false) loop ∙ (λ i. roll-Stmt (Stmt-F.For (all i))) ∙ stmt.rolls-For plain_loop
+
+plain_ends : (w : Context) → w ≡ context → run sums (does_list w (stmt.For plain_loop ∷ []) [] 0 (first_frame unit)) start ≡ Ended (first_frame unit) last
+plain_ends w same = simp folds (rw same refl)
+
+source_ends : source_run sums (source_of unit) start ≡ Ended (first_frame unit) last
+source_ends = ap (λ s. run sums (does_list context (s ∷ []) [] 0 (first_frame unit)) start) stripped ∙ plain_ends context refl
+
+all_of : (k : Kind) (xs : List Value) → Each (λ v. (kind_of v ≡ k) × IsValue v) xs → All (λ v. (kind_of v ≡ k) × IsValue v) xs
+all_of k [] h = All-nil (λ v. (kind_of v ≡ k) × IsValue v)
+all_of k (x ∷ xs) h = All-cons (λ v. (kind_of v ≡ k) × IsValue v) x xs h.0 (all_of k xs h.1)
+
+its_arrays : AreArraysOf unit.arrays start
+its_arrays = (
+  refl,
+  all_of kind.Int (Int (pos 7) ∷ Int (pos 7) ∷ []) ((refl, refl), ((refl, refl), tt)),
+  (refl, all_of kind.Unsigned (Unsigned 5 ∷ []) ((refl, refl), tt), tt),
+)
+
+all_taken : AddsTaken sums_take unit
+all_taken =
+    let one = fold_stmt-For (adds_at sums_take context) (λ l. all_true l.body) loop ∙ fold_loop (adds_at sums_take context) (λ l. all_true l.body) head ∙ sums_taken in
+    λ i. one i && true
+
+pub some_unit : SomeUnitIsOrderly
+some_unit = (unit, start, first_frame unit, last, unit_made, its_arrays, all_taken, unit_orderly, source_ends, ranks)

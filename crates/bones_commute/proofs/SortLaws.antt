@@ -1,5 +1,4 @@
 -- Laws of lists of sorts: the order of what is joined does not matter.
-use Rattle.std.proofs.Common.{◌≡◌}
 use Rattle.species_joins.proofs.SortLaws.{sort_trades, sort_closed, sort_swaps, sort_groups}
 use Rattle.bones_commute.specs.Sorts.{sort_in, joins_of, gatherings_of, SortsGather, SortsTrade, SortsKeepValues, SortedUnitsPlay}
 use Rattle.bones_commute.proofs.UnitLaws.{orderly_units_play}

@@ -5,9 +5,10 @@ use Rattle.species_ast.specs.declared.tree.Stmt.{Stmt}
 use Rattle.species_ast.specs.declared.tree.Stmt.TheVariants as stmt
 use Rattle.species_ast.specs.declared.tree.Unit.{Unit as Program}
 use Rattle.species_ast.specs.Marks.{all_true}
-use Rattle.species_ast.specs.Accesses.{Joins, Cells, Ended, run}
+use Rattle.species_ast.specs.Accesses.{Joins, Cells, Ended, run, Access}
 use Rattle.species_ast.specs.Evaluation.{Frame, Context}
 use Rattle.species_ast.specs.Run.{Takes, loop_of, source_context}
+use Rattle.species_runs.specs.Places.{only_place}
 use Rattle.species_runs.specs.Scopes.{FitIn, outer_locals_set}
 use Rattle.species_nests.specs.Arrivals.{Running}
 use Rattle.species_nests.specs.Effects.{HasQuietHeader, adds_taken}
@@ -80,11 +81,20 @@ nest_at d s = nest_of d s.loop s.at
 abbrev pub running_of : Stands → Frame → Cells → Running
 running_of s f m = record { loop = s.loop; around = s.around; at = s.at; frame = f; arrays = m }
 
+-- an access as it is wherever its statement stands among others: of the site, only the statement's place in the text is told
+abbrev pub placed_access : Access → Access
+placed_access a = record a { site = only_place a.site }
+
+abbrev pub placed_accesses : List (List Access) → List (List Access)
+placed_accesses xss = map (map placed_access) xss
+
 -- ---- the law
 
--- The joined nest ends where the two ended, its running is orderly, and its iterations can be played as those of a parallel nest.
-pub record JoinedEnds (join : Joins) (gathers : Gatherings) (w : Context) (d : ℕ) (joined : Stands) (f : Frame) (first last : Cells) : Type 0 where
+-- The joined nest ends where the two ended, its running is orderly, its iterations can be played as those of a parallel nest, and
+-- they make these accesses, those of the two nests rank by rank.
+pub record JoinedEnds (join : Joins) (gathers : Gatherings) (w : Context) (d : ℕ) (joined : Stands) (f : Frame) (first last : Cells) (xss : List (List Access)) : Type 0 where
   pub ends : run join (loop_of w joined.loop joined.at f) first ≡ Ended f last
+  pub accesses : placed_accesses (running_traces join w d (running_of joined f first)) ≡ placed_accesses xss
   pub orderly : IsOrderlyRunning join gathers w d (running_of joined f first)
   pub played : CanBePlayed join (iterations (gathers joined.at).takes w (nest_at d joined) (frames w (nest_at d joined).loops f)) first last
 
@@ -99,3 +109,4 @@ JoinedLoopsRun = (join : Joins) → Trades join → (gathers : Gatherings) (u : 
     → run join (loop_of (source_context u) one.loop one.at f) first ≡ Ended g mid → run join (loop_of (source_context u) two.loop two.at g) mid ≡ Ended h last
     → IsApart (pairs (running_traces join (source_context u) d (running_of one f first)) (running_traces join (source_context u) d (running_of two g mid)))
     → (g ≡ f) × (h ≡ f) × JoinedEnds join gathers (source_context u) d joined f first last
+    (pairs (running_traces join (source_context u) d (running_of one f first)) (running_traces join (source_context u) d (running_of two g mid)))

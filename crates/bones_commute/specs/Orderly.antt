@@ -73,7 +73,7 @@ pub record CountsRanks (join : Joins) (gathers : Gatherings) (u : Program) (m : 
   pub same : map (λ (x : Bool × Access). x.1) (marked_accesses join (course_of gathers u) m) ≡ source_accesses join u m
   pub count : length (filter (λ (x : Bool × Access). x.0) (marked_accesses join (course_of gathers u) m)) ≡ ranks_of join (course_of gathers u) m
 
--- What holds of a list of ranks that is a play and leads to p: it does not fault, it can be continued to the end, at the end
+-- What holds of a list of ranks that is a play and leads to p: no fault stands there, more ranks lead on to the end, at the end
 -- are the last arrays, and it is as long as the nests have accesses there, and never longer.
 pub record PlayEnds {X : Type 0} (join : Joins) (c : Course X) (m last : Cells) (ks : List ℕ) (p : Position X) : Type 0 where
   pub no_fault : Faults p → ⊥
@@ -93,6 +93,11 @@ OrderlyUnitsPlay = (join : Joins) → Trades join → (gathers : Gatherings) (u 
 abbrev pub EveryInterleaving : Type 0
 EveryInterleaving = (u : Program) (m : Cells) (f : Frame) (last : Cells) → IsWellMade u → AreArraysOf u.arrays m → AddsTaken sums_take u → IsOrderly sums sum_gatherings u m
     → source_run sums (source_of u) m ≡ Ended f last → EveryPlayEnds sums (course_of sum_gatherings u) m last × CountsRanks sums sum_gatherings u m
+
+-- These laws are of something: all that they ask holds of one unit, in whose run the iterations of a parallel nest make four accesses.
+abbrev pub SomeUnitIsOrderly : Type 0
+SomeUnitIsOrderly = (u : Program) × (m : Cells) × (f : Frame) × (last : Cells) × IsWellMade u × AreArraysOf u.arrays m × AddsTaken sums_take u × IsOrderly sums sum_gatherings u m
+    × (source_run sums (source_of u) m ≡ Ended f last) × (ranks_of sums (course_of sum_gatherings u) m ≡ 4)
 
 -- ---- the way there: a run of the course in which each nest can be played
 

@@ -31,13 +31,13 @@ abbrev pub AnyOrderPlays : Type 0
 AnyOrderPlays = (join : Joins) (ps : List (Tree Frame)) (first last : Cells) (ks : List ℕ) → CanBePlayed join ps first last
     → ((k : ℕ) → count_of k ks ≤ length (nth (scripts join ps first) k)) → (st : State) × (plays join ps ks (start ps first) ≡ Some st)
 
--- So the source's order is a play, of all iterations to their ends, and it ends in the source's arrays.
+-- Such an order is one iteration after another, each to its end; it leaves the source's arrays.
 abbrev pub SourceOrderPlays : Type 0
 SourceOrderPlays = (join : Joins) (ps : List (Tree Frame)) (first last : Cells) → CanBePlayed join ps first last
     → (st : State) × (plays join ps (in_order 0 (scripts join ps first)) (start ps first) ≡ Some st) × Complete ps st.turns × (st.cells ≡ last)
 
--- Where the pairs of iterations of two nests are apart, the source's order of the one nest and then of the other is a play of the
--- joined nest, to its end and to the arrays in which the two nests end.
+-- Where the pairs of iterations of two nests are apart, the nest that joins them can be played through all actions of the one, one
+-- iteration after another, and then through those of the other: to its end, and to the arrays that the two nests leave.
 abbrev pub OrderOfTwoPlays : Type 0
 OrderOfTwoPlays = (join : Joins) → Trades join → (ps qs : List (Tree Frame)) (first mid last : Cells) → length ps ≡ length qs → run_all join ps first ≡ Some mid → run_all join qs mid ≡ Some last
     → IsApart (pairs (traces join ps first) (traces join qs mid))

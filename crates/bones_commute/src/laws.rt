@@ -3,7 +3,7 @@
 ghost use Rattle.bones_commute.specs.Joined.{JoinedNestsRun};
 ghost use Rattle.bones_commute.specs.JoinedNests.{JoinedLoopsRun};
 ghost use Rattle.bones_commute.specs.Laws.{AllStartsFollow, AllStepsFollow, AllStatesGoOn, AllEndsAreEqual, AllSwap};
-ghost use Rattle.bones_commute.specs.Orderly.{OrderlyUnitsPlay, EveryInterleaving};
+ghost use Rattle.bones_commute.specs.Orderly.{OrderlyUnitsPlay, EveryInterleaving, SomeUnitIsOrderly};
 ghost use Rattle.bones_commute.specs.Orders.{AnyOrderPlays, SourceOrderPlays, OrderOfTwoPlays};
 ghost use Rattle.bones_commute.specs.Sorts.{SortsGather, SortsTrade, SortsKeepValues, SortedUnitsPlay};
 
@@ -21,15 +21,16 @@ pub fn law_end()
 {}
 
 /// No play of an orderly unit faults, each can be continued, and each ends in the arrays of the
-/// unit's run after as many steps as the run has accesses in parallel nests.
+/// unit's run after as many steps as the run has accesses in parallel nests. There are such units.
 pub fn law_plays()
     ensures any_join { OrderlyUnitsPlay }
     ensures of_sums { EveryInterleaving }
+    ensures some_unit { SomeUnitIsOrderly }
 {}
 
-/// Any order of the iterations' actions is a play, if none moves more often than it has actions. So the
-/// source's order is one, and so is that of two nests for the joined nest; both end in the source's
-/// arrays.
+/// A nest can be played in any order of ranks that names no iteration more often than it has actions. So
+/// it can be played one iteration after another; and the nest that joins two, first through all actions
+/// of the one and then through those of the other. Both leave the arrays of the source.
 pub fn law_orders()
     ensures any { AnyOrderPlays }
     ensures source { SourceOrderPlays }
@@ -57,7 +58,9 @@ pub fn law_sorts()
 {}
 
 /// The same of two loops of a unit and the loop whose body is theirs, one after the other: it ends
-/// where they did, and as a parallel nest it is orderly.
+/// where they did, its iterations make the accesses of theirs, and as a parallel nest it is orderly.
+/// The two loops take the same values, and their bodies stay inside: they set no local that is declared
+/// outside of them, and add atomically only to arrays that take what the joined nest gathers.
 pub fn law_joined_loops()
     ensures { JoinedLoopsRun }
 {}

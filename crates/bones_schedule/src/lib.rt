@@ -106,8 +106,8 @@ mod tests {
     #[test]
     fn other_words_are_refused(rt: HostRuntime) -> Result<(), Fail> {
         let texts: [(&[u8], u32, u32); 6] = [
-            (b"3 x", 115, 117),
-            (b"%%\n1", 0, 0),
+            (b"3 x", 118, 120),
+            (b"3\n%%\n1", 118, 120),
             (b"1 01 02", 0, 2),
             (b"4294967296", 4_194_294, 4_194_294),
             (b" +1", 0, 1),

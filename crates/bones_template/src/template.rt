@@ -56,6 +56,7 @@ impl Template {
         ensures ok { IfOk result (λ template. template ≡ text.now) }
         ensures whole { OnOk result (lacking text.now ≡ None) }
         ensures lacks { (hole : Hole) → result ≡ Err (TemplateRefusal.Lacks hole) → lacking text.now ≡ Some hole }
+        ensures refused { (hole : Hole) → lacking text.now ≡ Some hole → result ≡ Err (TemplateRefusal.Lacks hole) }
     {
         match lacking(text) {
             Some(hole) => Err(TemplateRefusal::Lacks(hole)),

@@ -1,10 +1,4 @@
 pub mod Lists
-pub mod NameTable
-pub mod OneLoopComplete
-pub mod OneLoopLoops
-pub mod OneLoopRead
-pub mod OneLoopSound
-pub mod OneLoopWords
 pub mod TableLemmas
 pub mod TableTruth
 pub mod TopLemmas

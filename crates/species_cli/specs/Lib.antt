@@ -1,7 +1,5 @@
 pub mod Answer
 pub mod Bounds
-pub mod NameTable
-pub mod OneLoopReading
-pub mod OneLoopText
+pub mod Refusals
 pub mod Statuses
 pub mod Table

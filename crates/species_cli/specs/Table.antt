@@ -1,4 +1,4 @@
--- The table of the references of a one-loop program, and what it says of the program.
+-- The table of the references of simple loops, and what it says of them.
 use Rattle.std.specs.Prelude.{◌≡◌, ◌↔◌, ℕ, zero, suc, ◌<◌, ℤ, pos, ◌+ℤ◌, ◌-ℤ◌, ◌*ℤ◌, ◌≤ℤ◌, ◌<ℤ◌, negsuc, List, [], ◌∷◌, ◌++◌, Some, length, codes, decimal, slice_get}
 use Rattle.std.specs.Option.{option_map_or}
 use Rattle.std.specs.Fmt.{signed_decimal}
@@ -9,6 +9,7 @@ use Rattle.species_ast.specs.declared.tree.Test.{Test}
 use Rattle.species_ast.specs.declared.tree.Test.TheVariants as test
 use Rattle.species_ast.specs.declared.tree.Expr.{Expr}
 use Rattle.species_ast.specs.declared.tree.Stmt.{Stmt, out-Stmt}
+use Rattle.species_ast.specs.declared.tree.Stmt.TheVariants as stmt
 use Rattle.species_ast.specs.declared.tree.Stmt.TheOpen.{Stmt-F}
 use Rattle.species_ast.specs.declared.tree.Loop.{Loop, out-Loop}
 use Rattle.species_reference.specs.declared.Dir.{Dir}
@@ -16,7 +17,7 @@ use Rattle.species_reference.specs.declared.Dir.TheVariants as dir
 use Rattle.species_reference.specs.declared.FirstReference.{FirstReference}
 use Rattle.species_reference.specs.References.{Access, accesses_of, references_of, subscript_value}
 
--- the value of a bound, which names no iterator in a one-loop program
+-- the value of a bound, which is a literal
 abbrev pub bound_value : Expr → ℤ
 bound_value = subscript_value (pos 0)
 
@@ -116,3 +117,7 @@ pub record IsTrueTable (head : Loop) : Type 0 where
   pub count : length (references_of head) ≡ length (accesses_of head)
   pub lines : (k : ℕ) (r : FirstReference) (a : Access) → slice_get (references_of head) k ≡ Some r
       → slice_get (accesses_of head) k ≡ Some a → (r.number ≡ k) × IsTrueLine head r a
+
+-- the table of each loop of the list is true
+abbrev pub IsTrueTables : List Stmt → Type 0
+IsTrueTables body = (k : ℕ) (head : Loop) → slice_get body k ≡ Some (stmt.For head) → IsTrueTable head

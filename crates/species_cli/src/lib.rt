@@ -1,7 +1,7 @@
 //! The commands of the compiler: bytes in, bytes out, and a status.
 #![tactic(auto)]
 
-mod one_loop;
+mod refusal;
 mod table;
 mod top;
 

@@ -2,9 +2,7 @@
 ghost use Rattle.std.specs.Prelude.{◌≡◌, ◌++◌, IfOk, OnOk, IsTrue, pos, ◌+ℤ◌, ◌-ℤ◌, ◌<ℤ◌, ◌≤ℤ◌, negsuc, ◌^◌, codes, decimal};
 ghost use Rattle.std.specs.List.{flat_map};
 ghost use Rattle.std.specs.Fmt.{signed_decimal};
-ghost use Rattle.species_reference.specs.OneLoop.{OneLoop, HasLawfulNumbers, unit_of};
-ghost use Rattle.species_reference.specs.Form.{IsOneLoop};
-ghost use Rattle.species_reference.specs.Shape.{is_literal};
+ghost use Rattle.species_reference.specs.Shape.{is_literal, is_simple_loop, has_simple_loops};
 ghost use Rattle.species_cli.specs.Bounds.{IsSmall};
 ghost use Rattle.species_cli.specs.Table.{table_of, loop_text, line_at, access_text, domain_text, name_of, dir_text, form_text, bound_value};
 
@@ -15,34 +13,33 @@ use std::alloc::Global;
 
 /// Of each outermost loop a line with its place, and behind it one for each reference.
 pub(crate) fn table(alloc: Global, unit: &Unit) -> Result<Vec<u8>, OutOfMemory>
-    requires { (p : OneLoop) × HasLawfulNumbers p × (unit.now ≡ unit_of p) }
+    requires { IsTrue (has_simple_loops unit.now) }
     ensures { IfOk result (λ text. text.items ≡ table_of unit.now) }
 {
     let mut text = Vec::new(alloc);
     for statement in unit.body.as_slice() {
         if let Stmt::For(head) = statement {
-            put_loop(alloc, unit, head, &mut text)?;
+            put_loop(alloc, unit.arrays.as_slice(), head, &mut text)?;
         }
     }
     Ok(text)
 }
 
-fn put_loop(alloc: Global, unit: &Unit, head: &Loop, text: &mut Vec<u8>) -> Result<(), OutOfMemory>
-    requires { IsOneLoop unit.now head.now }
-    ensures { OnOk result (text.new.items ≡ text.old.items ++ loop_text unit.now.arrays head.now) }
+fn put_loop(
+    alloc: Global,
+    arrays: &[Array],
+    head: &Loop,
+    text: &mut Vec<u8>,
+) -> Result<(), OutOfMemory>
+    requires { IsTrue (is_simple_loop head.now) }
+    ensures { OnOk result (text.new.items ≡ text.old.items ++ loop_text arrays.now head.now) }
 {
     text.extend_from_slice(b"loop ")?;
     put_count(head.place, text)?;
     text.extend_from_slice(b"\n")?;
     let bounds = bounds_of(head);
-    let references = first_references(alloc, unit, head)?;
-    put_lines(
-        unit.arrays.as_slice(),
-        head.iter.as_slice(),
-        bounds,
-        &references,
-        text,
-    )?;
+    let references = first_references(alloc, head)?;
+    put_lines(arrays, head.iter.as_slice(), bounds, &references, text)?;
     Ok(())
 }
 
@@ -184,7 +181,7 @@ fn put_form(
     Ok(())
 }
 
-fn put_count(count: u32, text: &mut Vec<u8>) -> Result<(), OutOfMemory>
+pub(crate) fn put_count(count: u32, text: &mut Vec<u8>) -> Result<(), OutOfMemory>
     ensures { OnOk result (text.new.items ≡ text.old.items ++ decimal count) }
 {
     let mut buffer = Buffer::new();

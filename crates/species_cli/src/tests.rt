@@ -8,8 +8,6 @@ use std::alloc::{AllocError, Global};
 const USAGE: &[u8] =
     b"usage: species arcs|annotate|compile|check|run [--trace]|drill --nests N --from F\n";
 
-const NOT_BUILT: &[u8] = b"refused 19 NotBuilt at 0\n";
-
 const ROOM: usize = 16_777_216;
 
 const COPY: &[u8] =
@@ -67,48 +65,96 @@ fn run(
 }
 
 #[test]
-fn tables_and_refusals_of_whole_programs(rt: HostRuntime) {
-    let cases: [(&[u8], u8, &[u8], &[u8]); 8] = [
-        (COPY, 0, COPY_TABLE, b""),
+fn tables(rt: HostRuntime) {
+    let cases: [(&[u8], &[u8]); 7] = [
+        (COPY, COPY_TABLE),
         (
             b"int A[8];\nvoid k(void) {\n    for (int i = 3; i < 8; i++) {\n        A[i] = A[i - 3];\n    }\n}\n",
-            0,
             b"loop 29\n0 read A[0:4] elements (1) step (1)|element at (i-3) exact\n1 write A[3:7] elements (1) step (1)|element at (i) exact\n",
-            b"",
         ),
         (
             b"int A[1];\nvoid k(void) {\n    for (int i = 0; i < 0; i++) {\n        A[i] = 1;\n    }\n}\n",
-            0,
             b"loop 29\n0 write A[0:-1] elements (1) step (1)|element at (i) exact\n",
-            b"",
         ),
         (
             b"int A[9];\nint B[9];\nvoid f(void) {\n    for (int n = 1; n < 8; n++) {\n        B[n] = A[n - 1] + 3 * B[n + 1] + 7;\n        A[n + 0] = 2;\n    }\n}\n",
-            0,
             b"loop 39\n0 read A[0:6] elements (1) step (1)|element at (n-1) exact\n1 read B[2:8] elements (1) step (1)|element at (n+1) exact\n2 write B[1:7] elements (1) step (1)|element at (n) exact\n3 write A[1:7] elements (1) step (1)|element at (n) exact\n",
-            b"",
+        ),
+        (b"void f(void){for(int n=1;n<8;++n);}", b"loop 13\n"),
+        (
+            b"#define N 64\n/* two */ unsigned A [ N ] , B[N]; // arrays\nstatic void k() { int i;\n for (i = 0; i < N; i += 1)\n  B[i] = 2 * A[i]; }",
+            b"loop 84\n0 read A[0:63] elements (1) step (1)|element at (i) exact\n1 write B[0:63] elements (1) step (1)|element at (i) exact\n",
         ),
         (
-            b"void f(void) {\n    for (int n = 1; n < 8; n++) {\n    }\n}\n",
-            0,
-            b"loop 19\n",
-            b"",
-        ),
-        (b"", 1, b"", NOT_BUILT),
-        (b"int A[4];\n", 1, b"", NOT_BUILT),
-        (
-            b"int A[8];\nvoid k(void) {\n    for (int i = 3; i < 8; i++) {\n        A[i] = A[j - 3];\n    }\n}\n",
-            1,
-            b"",
-            NOT_BUILT,
+            b"int A[9];\nvoid k(void) {\nfor (int i = 0; i < 9; i++) A[i] = ~A[i] << 2;\nfor (int j = 1; j < 8; j++) { A[j + 1] = (unsigned)A[j]; } }",
+            b"loop 25\n0 read A[0:8] elements (1) step (1)|element at (i) exact\n1 write A[0:8] elements (1) step (1)|element at (i) exact\nloop 72\n0 read A[1:7] elements (1) step (1)|element at (j) exact\n1 write A[2:8] elements (1) step (1)|element at (j+1) exact\n",
         ),
     ];
     let alloc = rt.alloc();
-    for (text, status, output, notes) in cases {
+    for (text, output) in cases {
         let input = Vec::from_slice(alloc, text).expect(&rt, "memory");
         let got = run(alloc, &["species", "arcs"], input, PLAIN).expect(&rt, "memory");
-        assert_eq!(rt; got.0, status, "status");
+        assert_eq!(rt; got.0, 0, "status");
         assert!(rt; got.1.bytes() == output, "output");
+        assert!(rt; got.2.bytes().is_empty(), "notes");
+    }
+}
+
+#[test]
+fn refusals(rt: HostRuntime) {
+    let cases: [(&[u8], &[u8]); 15] = [
+        (b"int A[4]; @", b"refused 1 BadByte at 10\n"),
+        (b"int A[09];", b"refused 2 BadNumber at 6\n"),
+        (b"int A[4]; /* x", b"refused 3 OpenComment at 10\n"),
+        (b"", b"refused 4 Syntax at 0\n"),
+        (b"int A[4];\n", b"refused 4 Syntax at 10\n"),
+        (
+            b"int A[4]; void k(void) { for (int i = 0; i < 4; j++) A[i] = 1; }",
+            b"refused 5 Unknown at 48\n",
+        ),
+        (
+            b"int A[4], A[2]; void k(void) { }",
+            b"refused 6 Duplicate at 10\n",
+        ),
+        (
+            b"int A[4]; void k(void) { A[0][0] = 1; }",
+            b"refused 7 DimensionCount at 25\n",
+        ),
+        (
+            b"int A[4]; void k(void) { for (int i = 0; i < 4; i++) i = 1; }",
+            b"refused 8 IteratorAssigned at 53\n",
+        ),
+        (
+            b"int A[4]; void k(void) { int i; for (i = 0; i < 4; i++) A[i] = 1; A[i] = 1; }",
+            b"refused 9 IteratorOutside at 68\n",
+        ),
+        (
+            b"int A[4]; void k(void) { for (int i = 0; i < A[0]; i++) A[i] = 1; }",
+            b"refused 10 NotStatic at 45\n",
+        ),
+        (
+            b"int A[4]; void k(void) { for (int i = 0; i < 4; i += 0) A[i] = 1; }",
+            b"refused 11 BadStep at 25\n",
+        ),
+        (
+            b"int A[0]; void k(void) { }",
+            b"refused 12 LimitPassed(Elements) at 4\n",
+        ),
+        (
+            b"int A[4];\nvoid k(void) {\n#pragma omp parallel for collapse(2)\nfor (int i = 0; i < 4; i++) A[i] = 1; }",
+            b"refused 13 BadMark at 62\n",
+        ),
+        (
+            b"int A[4][4]; void k(void) { for (int i = 0; i < 4; i++) A[i][0] = 1; }",
+            b"refused 19 NotBuilt at 0\n",
+        ),
+    ];
+    let alloc = rt.alloc();
+    for (text, notes) in cases {
+        let input = Vec::from_slice(alloc, text).expect(&rt, "memory");
+        let got = run(alloc, &["species", "arcs"], input, PLAIN).expect(&rt, "memory");
+        assert_eq!(rt; got.0, 1, "status");
+        assert!(rt; got.1.bytes().is_empty(), "output");
         assert!(rt; got.2.bytes() == notes, "notes");
     }
 }
@@ -201,17 +247,17 @@ fn small_pieces_and_faults(rt: HostRuntime) {
 
 #[test]
 fn the_longest_input(rt: HostRuntime) {
-    let cases: [(usize, &[u8]); 2] = [
-        (4_194_304, NOT_BUILT),
-        (4_194_305, b"refused 18 TooLong at 4194304\n"),
+    let cases: [(usize, u8, &[u8], &[u8]); 2] = [
+        (4_194_304, 0, COPY_TABLE, b""),
+        (4_194_305, 1, b"", b"refused 18 TooLong at 4194304\n"),
     ];
     let alloc = rt.alloc();
-    for (size, notes) in cases {
+    for (size, status, output, notes) in cases {
         let mut input = Vec::from_slice(alloc, COPY).expect(&rt, "memory");
         input.resize(size, b' ').expect(&rt, "memory");
         let got = run(alloc, &["species", "arcs"], input, PLAIN).expect(&rt, "memory");
-        assert_eq!(rt; got.0, 1, "status");
-        assert!(rt; got.1.bytes().is_empty(), "output");
+        assert_eq!(rt; got.0, status, "status");
+        assert!(rt; got.1.bytes() == output, "output");
         assert!(rt; got.2.bytes() == notes, "notes");
     }
 }

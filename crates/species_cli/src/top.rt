@@ -1,16 +1,17 @@
 //! The call that the program makes.
 ghost use Rattle.std.specs.Prelude.{◌≡◌, ◌≢◌, ◌⊎◌, ◌≤◌, ◌<◌, ◌+◌, ◌↔◌, ℕ, List, Some, length, IsTrue};
 ghost use Rattle.species_ast.specs.Limits.{most_bytes};
+ghost use Rattle.species_ast.specs.declared.tree.Unit.{Unit as Program};
 ghost use Rattle.species_io.specs.Told.{Rose, then_bytes, AtEnd, GaveAtMost, TookPart};
-ghost use Rattle.species_reference.specs.OneLoop.{OneLoop};
+ghost use Rattle.species_reading.specs.declared.refusal.InputRefusal.TheVariants as input_refusal;
 ghost use Rattle.species_cli.specs.Statuses.{status_answered, status_refused, status_usage, status_undefined, status_read_fault, status_write_fault, status_memory};
-ghost use Rattle.species_cli.specs.OneLoopText.{IsOneLoopText};
-ghost use Rattle.species_cli.specs.Answer.{IsArcs, IsAnswered, IsNoted, IsPartlyAnswered, IsPartlyNoted, IsNoOneLoop, IsRefusedOn, usage_line, read_fault_line};
+ghost use Rattle.species_cli.specs.Answer.{IsArcs, HasTable, IsNotBuilt, IsRefused, IsAnswered, IsNoted, IsPartlyAnswered, IsPartlyNoted, IsRefusedOn, IsSaid, usage_line, read_fault_line};
 
-use crate::one_loop::{ReadRefusal, read_one_loop};
+use crate::refusal::line_of;
 use crate::table::table;
-use species_ast::MOST_BYTES;
-use species_io::{ReadAnswer, Sink, Source, read_whole, write_all};
+use species_io::{Sink, Source, write_all};
+use species_reading::{InputRefusal, read_program_from};
+use species_reference::has_simple_loops;
 use species_words::{Command, read_words};
 use std::alloc::Global;
 
@@ -47,6 +48,26 @@ fn say<N: Sink>(notes: &mut N, line: &[u8], status: u8) -> u8
     }
 }
 
+/// Says why an input is not read.
+fn refuse<N: Sink>(alloc: Global, notes: &mut N, refusal: InputRefusal) -> u8
+    ensures statuses { (result ≡ status_refused) ⊎ ((result ≡ status_read_fault) ⊎ ((result ≡ status_write_fault) ⊎ (result ≡ status_memory))) }
+    ensures said { result ≢ status_write_fault → result ≢ status_memory → (line : List ℕ) × IsSaid refusal result line × (N.taken notes.new ≡ then_bytes (N.taken notes.old) line) }
+    ensures silent { result ≡ status_memory → notes.new ≡ notes.old }
+    ensures memory { refusal ≡ input_refusal.Memory → result ≡ status_memory }
+    ensures part { result ≡ status_write_fault → (status : ℕ) × (line : List ℕ) × IsSaid refusal status line × TookPart (N.taken notes.old) (N.taken notes.new) line }
+    ensures fault { result ≡ status_write_fault → Rose (N.faults notes.old) (N.faults notes.new) }
+{
+    match refusal {
+        InputRefusal::ReadFault => say(notes, b"read fault\n", READ_FAULT),
+        InputRefusal::TooLong => say(notes, b"refused 18 TooLong at 4194304\n", REFUSED),
+        InputRefusal::Program(program) => match line_of(alloc, program) {
+            Ok(line) => say(notes, &line, REFUSED),
+            Err(_) => MEMORY,
+        },
+        InputRefusal::Memory => MEMORY,
+    }
+}
+
 /// Does what the words ask for, and answers the status of the program.
 ///
 /// | Status | When |
@@ -74,12 +95,12 @@ pub fn species<S: Source, K: Sink, N: Sink>(
     ensures read_all { result ≡ status_answered → AtEnd (S.left input.new) }
 
     // Every other status: nothing on `output`, and its line on `notes`.
-    ensures untouched { result ≢ status_answered → result ≢ status_write_fault → K.taken output.new ≡ K.taken output.old }
+    ensures untouched { result ≢ status_answered → result ≢ status_write_fault → output.new ≡ output.old }
     ensures noted { result ≢ status_answered → result ≢ status_write_fault → result ≢ status_memory → (bytes : List ℕ) → S.left input.old ≡ Some bytes
         → IsNoted words.now (Rose (S.faults input.old) (S.faults input.new)) bytes result (N.taken notes.old) (N.taken notes.new) }
-    ensures silent { (result ≡ status_answered) ⊎ (result ≡ status_memory) → N.taken notes.new ≡ N.taken notes.old }
+    ensures silent { (result ≡ status_answered) ⊎ (result ≡ status_memory) → notes.new ≡ notes.old }
 
-    // Status 1: one of two lines, and where the input is not too long it was read to its end.
+    // Status 1: the line of a refusal, and where the input is not too long it was read to its end.
     ensures refused_line { result ≡ status_refused → IsRefusedOn (N.taken notes.old) (N.taken notes.new) }
     ensures refused_read_all { result ≡ status_refused → (bytes : List ℕ) → S.left input.old ≡ Some bytes → length bytes ≤ most_bytes → AtEnd (S.left input.new) }
 
@@ -102,11 +123,12 @@ pub fn species<S: Source, K: Sink, N: Sink>(
     ensures budget { GaveAtMost (most_bytes + 1) (S.left input.old) (S.left input.new) }
 
     // Where no count rose, the answer is the defined one, or there was not enough memory.
-    ensures complete { (bytes : List ℕ) → S.left input.old ≡ Some bytes → IsArcs words.now → length bytes ≤ most_bytes
-        → (p : OneLoop) → IsOneLoopText bytes p
+    ensures complete { (bytes : List ℕ) → S.left input.old ≡ Some bytes → IsArcs words.now
+        → (program : Program) → HasTable bytes program
         → (Rose (S.faults input.old) (S.faults input.new) → ⊥) → (Rose (K.faults output.old) (K.faults output.new) → ⊥) → (Rose (N.faults notes.old) (N.faults notes.new) → ⊥)
         → (result ≡ status_answered) ⊎ (result ≡ status_memory) }
-    ensures refuses { (bytes : List ℕ) → S.left input.old ≡ Some bytes → IsArcs words.now → (most_bytes < length bytes) ⊎ IsNoOneLoop bytes
+    ensures refuses { (bytes : List ℕ) → S.left input.old ≡ Some bytes → IsArcs words.now
+        → (most_bytes < length bytes) ⊎ (((line : List ℕ) × IsRefused bytes line) ⊎ ((program : Program) × IsNotBuilt bytes program))
         → (Rose (S.faults input.old) (S.faults input.new) → ⊥) → (Rose (N.faults notes.old) (N.faults notes.new) → ⊥)
         → (result ≡ status_refused) ⊎ (result ≡ status_memory) }
 {
@@ -117,19 +139,13 @@ pub fn species<S: Source, K: Sink, N: Sink>(
             USAGE,
         );
     }
-    let bytes = match read_whole(alloc, input, MOST_BYTES) {
-        Ok(bytes) => bytes,
-        Err(ReadAnswer::TooLong) => {
-            return say(notes, b"refused 18 TooLong at 4194304\n", REFUSED);
-        }
-        Err(ReadAnswer::ReadFault) => return say(notes, b"read fault\n", READ_FAULT),
-        Err(ReadAnswer::Memory) => return MEMORY,
-    };
-    let unit = match read_one_loop(alloc, &bytes) {
+    let unit = match read_program_from(alloc, input) {
         Ok(unit) => unit,
-        Err(ReadRefusal::NotBuilt) => return say(notes, b"refused 19 NotBuilt at 0\n", REFUSED),
-        Err(ReadRefusal::Memory) => return MEMORY,
+        Err(refusal) => return refuse(alloc, notes, refusal),
     };
+    if !has_simple_loops(&unit) {
+        return say(notes, b"refused 19 NotBuilt at 0\n", REFUSED);
+    }
     let text = match table(alloc, &unit) {
         Ok(text) => text,
         Err(_) => return MEMORY,

@@ -1,4 +1,4 @@
--- The arrays that a nest gathers as sums: each reference to them in the nest is the target of a `+=`, and they are of an unsigned kind.
+-- The arrays that a nest gathers as sums: those of an unsigned kind to which it adds by `+=`, and which it uses in no other way.
 use Rattle.std.specs.Prelude.{ℕ, suc, ◌&&◌, List, [], ◌∷◌, ◌++◌, map, flat_map, Option, Some, None, Bool, not, nat_eq, if◌then◌else◌}
 use Rattle.std.specs.List.{list_any}
 use Rattle.species_ast.specs.declared.tree.Array.{Array}

@@ -1,5 +1,5 @@
 //! The arrays that a nest gathers as sums.
-ghost use Rattle.std.specs.Prelude.{◌≡◌, ◌<◌, ◌^◌, ◌++◌, IfOk, length, nat_eq};
+ghost use Rattle.std.specs.Prelude.{◌≡◌, ◌++◌, IfOk, nat_eq};
 ghost use Rattle.std.specs.List.{list_any};
 ghost use Rattle.species_ast.specs.Operators.{is_signed};
 ghost use Rattle.species_gather.specs.Summed.{read_by, read_in, read_first, summed_by, summed_in, used_by, used_in, summed_arrays};
@@ -223,20 +223,22 @@ fn is_summed(body: &[Stmt], array: u32, kind: Kind) -> bool
     }
 }
 
-/// The arrays of an unsigned kind to which the nest of a loop adds, each reference to which in the nest
-/// is the target of a `+=`, by number.
+/// By number, the arrays of an unsigned kind to which the nest of a loop adds by `+=`, and which it uses
+/// in no other way. A unit with more arrays than 32 bits can number gets the answer for want of memory.
 pub fn sum_arrays(alloc: Global, unit: &Unit, head: &Loop) -> Result<Vec<u32>, OutOfMemory>
-    requires { length unit.now.arrays < 2 ^ 32 }
     ensures { IfOk result (λ found. found.items ≡ summed_arrays unit.now head.now) }
 {
     let body = head.body.as_slice();
     let mut found = Vec::new(alloc);
-    let mut number = 0;
+    let mut number: u32 = 0;
     for array in unit.arrays.as_slice() {
         if is_summed(body, number, array.kind) {
             found.push(number)?;
         }
-        number += 1;
+        match number.checked_add(1) {
+            None => return Err(OutOfMemory),
+            Some(next) => number = next,
+        }
     }
     Ok(found)
 }

@@ -1,5 +1,4 @@
-ghost use Rattle.std.specs.Prelude.{◌≡◌, IfOk, length};
-
+//! Each join of its kind, and a nest that adds to one array.
 use crate::{
     Gather, Greatest, Greatest64, Least, Least64, Sort, WrapAdd, WrapAdd64, join_of, sum_arrays,
 };
@@ -71,9 +70,7 @@ fn array(alloc: Global, kind: Kind) -> Result<Array, OutOfMemory> {
     })
 }
 
-fn unit(alloc: Global) -> Result<Unit, OutOfMemory>
-    ensures { IfOk result (λ u. length u.arrays ≡ 3) }
-{
+fn unit(alloc: Global) -> Result<Unit, OutOfMemory> {
     let mut arrays = Items::new(alloc);
     arrays.push(array(alloc, Kind::Unsigned)?)?;
     arrays.push(array(alloc, Kind::Int)?)?;

@@ -1,17 +1,16 @@
 -- The elements of simple expressions, one equation for each form.
-use Rattle.std.proofs.Common.{◌≡◌, ◌∙◌, ap, sym, refl, ℕ, Bool, true, ◌&&◌, List, [], ◌∷◌, ◌++◌, map}
+use Rattle.std.proofs.Common.{◌≡◌, ◌∙◌, ap, sym, refl, ℕ, Bool, true, false, ◌&&◌, List, [], ◌∷◌, ◌++◌, map}
 use Rattle.std.proofs.lemmas.Bool.{and_parts}
 use Rattle.std.specs.List.{flat_map}
 use Rattle.species_ast.specs.declared.tree.Value.{Value}
 use Rattle.species_ast.specs.declared.tree.Unary.{Unary}
 use Rattle.species_ast.specs.declared.tree.Kind.{Kind}
 use Rattle.species_ast.specs.declared.tree.Binary.{Binary}
-use Rattle.species_ast.specs.declared.tree.Binary.TheVariants as binary
 use Rattle.species_ast.specs.declared.tree.Expr.{Expr, roll-Expr, out-Expr, roll-out-Expr, para-roll-Expr}
 use Rattle.species_ast.specs.declared.tree.Expr.TheOpen.{Expr-F}
 use Rattle.species_ast.specs.declared.tree.Expr.TheVariants as expr
 use Rattle.species_reference.specs.References.{elements_at, elements_of}
-use Rattle.species_reference.specs.Shape.{is_literal_at, is_literal, is_iterator_at, is_shift_at, is_simple_subscripts, is_simple_at, is_simple_value}
+use Rattle.species_reference.specs.Shape.{is_literal_at, is_literal, is_iterator_at, is_iterator, is_sum, is_shift_at, is_simple_subscripts, is_simple_at, is_simple_value}
 
 pub elements-Literal : (n : Value) → elements_of (expr.Literal n) ≡ []
 elements-Literal n = ap elements_of (sym (expr.rolls-Literal n)) ∙ para-roll-Expr _ elements_at (Expr-F.Literal n)
@@ -43,22 +42,13 @@ elements-Binary o a b = ap elements_of (sym (expr.rolls-Binary o a b)) ∙ para-
 pub simple-Binary : (o : Binary) (a b : Expr) → is_simple_value (expr.Binary o a b) ≡ (is_simple_value a && is_simple_value b)
 simple-Binary o a b = ap is_simple_value (sym (expr.rolls-Binary o a b)) ∙ para-roll-Expr _ is_simple_at (Expr-F.Binary o a b)
 
-pub elements-And : (a b : Expr) → elements_of (expr.And a b) ≡ elements_of a ++ elements_of b
-elements-And a b = ap elements_of (sym (expr.rolls-And a b)) ∙ para-roll-Expr _ elements_at (Expr-F.And a b)
-
-pub simple-And : (a b : Expr) → is_simple_value (expr.And a b) ≡ (is_simple_value a && is_simple_value b)
+pub simple-And : (a b : Expr) → is_simple_value (expr.And a b) ≡ false
 simple-And a b = ap is_simple_value (sym (expr.rolls-And a b)) ∙ para-roll-Expr _ is_simple_at (Expr-F.And a b)
 
-pub elements-Or : (a b : Expr) → elements_of (expr.Or a b) ≡ elements_of a ++ elements_of b
-elements-Or a b = ap elements_of (sym (expr.rolls-Or a b)) ∙ para-roll-Expr _ elements_at (Expr-F.Or a b)
-
-pub simple-Or : (a b : Expr) → is_simple_value (expr.Or a b) ≡ (is_simple_value a && is_simple_value b)
+pub simple-Or : (a b : Expr) → is_simple_value (expr.Or a b) ≡ false
 simple-Or a b = ap is_simple_value (sym (expr.rolls-Or a b)) ∙ para-roll-Expr _ is_simple_at (Expr-F.Or a b)
 
-pub elements-Cond : (c a b : Expr) → elements_of (expr.Cond c a b) ≡ elements_of c ++ (elements_of a ++ elements_of b)
-elements-Cond c a b = ap elements_of (sym (expr.rolls-Cond c a b)) ∙ para-roll-Expr _ elements_at (Expr-F.Cond c a b)
-
-pub simple-Cond : (c a b : Expr) → is_simple_value (expr.Cond c a b) ≡ (is_simple_value c && (is_simple_value a && is_simple_value b))
+pub simple-Cond : (c a b : Expr) → is_simple_value (expr.Cond c a b) ≡ false
 simple-Cond c a b = ap is_simple_value (sym (expr.rolls-Cond c a b)) ∙ para-roll-Expr _ is_simple_at (Expr-F.Cond c a b)
 
 pub elements-Cast : (k : Kind) (a : Expr) → elements_of (expr.Cast k a) ≡ elements_of a
@@ -101,9 +91,9 @@ iterator_is_bare (Expr-F.Or a b) h = cc
 iterator_is_bare (Expr-F.Cond c a b) h = cc
 iterator_is_bare (Expr-F.Cast k a) h = cc
 
-both_bare : (o : Binary) (a b : Expr) → (is_iterator_at (out-Expr a) && is_literal b) ≡ true → elements_of (roll-Expr (Expr-F.Binary o a b)) ≡ []
+both_bare : (o : Binary) (a b : Expr) → (is_sum o && (is_iterator a && is_literal b)) ≡ true → elements_of (roll-Expr (Expr-F.Binary o a b)) ≡ []
 both_bare o a b h =
-    let parts = and_parts (is_iterator_at (out-Expr a)) (is_literal b) h in
+    let parts = and_parts (is_iterator a) (is_literal b) (and_parts (is_sum o) (is_iterator a && is_literal b) h).1 in
     let left : elements_of a ≡ [] = ap elements_of (sym (roll-out-Expr a)) ∙ iterator_is_bare (out-Expr a) parts.0 in
     let right : elements_of b ≡ [] = ap elements_of (sym (roll-out-Expr b)) ∙ literal_is_bare (out-Expr b) parts.1 in
     para-roll-Expr _ elements_at (Expr-F.Binary o a b) ∙ ap (λ l. l ++ elements_of b) left ∙ right
@@ -114,9 +104,7 @@ shift_is_bare_at (Expr-F.Iter n) h = para-roll-Expr _ elements_at (Expr-F.Iter n
 shift_is_bare_at (Expr-F.Local n) h = cc
 shift_is_bare_at (Expr-F.Elem a subs) h = cc
 shift_is_bare_at (Expr-F.Unary o a) h = cc
-shift_is_bare_at (Expr-F.Binary binary.Add a b) h = both_bare binary.Add a b h
-shift_is_bare_at (Expr-F.Binary binary.Sub a b) h = both_bare binary.Sub a b h
-shift_is_bare_at (Expr-F.Binary o a b) h = cc
+shift_is_bare_at (Expr-F.Binary o a b) h = both_bare o a b h
 shift_is_bare_at (Expr-F.And a b) h = cc
 shift_is_bare_at (Expr-F.Or a b) h = cc
 shift_is_bare_at (Expr-F.Cond c a b) h = cc

@@ -1,13 +1,15 @@
 -- Accesses that are collected one part after another.
-use Rattle.std.proofs.Common.{◌≡◌, ◌∙◌, ap, sym, refl, ℕ, ◌+◌, List, [], ◌∷◌, ◌++◌, map, length, append_assoc, append-nil, take, ◌<◌, get_or, take_all, ◌≤◌}
-use Rattle.std.proofs.Common.{true, ◌&&◌}
+use Rattle.std.proofs.Common.{arith, zero, suc, pos, ◌≡◌, ◌∙◌, ap, sym, refl, ℕ, ◌+◌, List, [], ◌∷◌, ◌++◌, map, length, append_assoc, append-nil, take, ◌<◌, get_or, take_all, ◌≤◌}
+use Rattle.std.proofs.Common.{true, false, ◌&&◌}
 use Rattle.std.proofs.lemmas.Bool.{and_parts}
 use Rattle.std.proofs.lemmas.List.{map-append, take_more}
 use Rattle.std.proofs.lemmas.Grind.{flat_map-append}
-use Rattle.std.specs.List.{flat_map}
+use Rattle.std.specs.List.{flat_map, list_all}
+use Rattle.std.specs.Ordering.{int_eq}
 use Rattle.species_ast.specs.declared.tree.Expr.{Expr}
 use Rattle.species_reference.specs.References.{Element, Access, read_of, reference_of, numbered, elements_of, statement_accesses, statement_accesses_at, offset_of}
-use Rattle.species_reference.specs.Shape.{is_simple_value, is_simple_subscripts, is_simple_statement, is_simple_statement_at}
+use Rattle.species_ast.specs.declared.tree.Loop.{Loop, out-Loop}
+use Rattle.species_reference.specs.Shape.{is_less, is_literal, is_simple_value, is_simple_subscripts, is_simple_statement, is_simple_statement_at, is_simple_loop}
 use Rattle.species_reference.specs.declared.Dir.TheVariants as dir
 use Rattle.species_reference.proofs.Elements.{simple_subscripts_are_bare}
 use Rattle.species_ast.specs.declared.tree.Stmt.{Stmt}
@@ -23,11 +25,6 @@ pub added_both : (old mid new : List code.Seen) (xs ys : List Element)
     → mid ≡ old ++ seen_reads xs → new ≡ mid ++ seen_reads ys → new ≡ old ++ seen_reads (xs ++ ys)
 added_both old mid new xs ys h k =
     k ∙ ap (λ m. m ++ seen_reads ys) h ∙ append_assoc old _ _ ∙ ap (λ l. old ++ l) (sym (seen_reads-append xs ys))
-
-pub added_three : (old mid next new : List code.Seen) (xs ys zs : List Element)
-    → mid ≡ old ++ seen_reads xs → next ≡ mid ++ seen_reads ys → new ≡ next ++ seen_reads zs → new ≡ old ++ seen_reads (xs ++ (ys ++ zs))
-added_three old mid next new xs ys zs h k l =
-    added_both old mid new xs (ys ++ zs) h (added_both mid next new ys zs k l)
 
 pub given-seen : (n : ℕ) (xs : List Access) → given n (map seen_of xs) ≡ numbered n xs
 given-seen n [] = refl
@@ -52,21 +49,9 @@ two_parts value a b ra rb old mid new s e p q h k simple =
     let second : new ≡ mid ++ seen_reads (elements_of b) = k (ap is_simple_value q ∙ parts.1) ∙ ap (λ x. mid ++ seen_reads (elements_of x)) q in
     added_both old mid new (elements_of a) (elements_of b) first second ∙ ap (λ x. old ++ seen_reads x) (sym e)
 
-pub three_parts : (value c a b rc ra rb : Expr) (old mid next new : List code.Seen)
-    → is_simple_value value ≡ (is_simple_value c && (is_simple_value a && is_simple_value b))
-    → elements_of value ≡ elements_of c ++ (elements_of a ++ elements_of b)
-    → rc ≡ c → ra ≡ a → rb ≡ b
-    → (is_simple_value rc ≡ true → mid ≡ old ++ seen_reads (elements_of rc))
-    → (is_simple_value ra ≡ true → next ≡ mid ++ seen_reads (elements_of ra))
-    → (is_simple_value rb ≡ true → new ≡ next ++ seen_reads (elements_of rb))
-    → is_simple_value value ≡ true → new ≡ old ++ seen_reads (elements_of value)
-three_parts value c a b rc ra rb old mid next new s e o p q g h k simple =
-    let parts = and_parts (is_simple_value c) (is_simple_value a && is_simple_value b) (sym s ∙ simple) in
-    let more = and_parts (is_simple_value a) (is_simple_value b) parts.1 in
-    let first : mid ≡ old ++ seen_reads (elements_of c) = g (ap is_simple_value o ∙ parts.0) ∙ ap (λ x. old ++ seen_reads (elements_of x)) o in
-    let second : next ≡ mid ++ seen_reads (elements_of a) = h (ap is_simple_value p ∙ more.0) ∙ ap (λ x. mid ++ seen_reads (elements_of x)) p in
-    let third : new ≡ next ++ seen_reads (elements_of b) = k (ap is_simple_value q ∙ more.1) ∙ ap (λ x. next ++ seen_reads (elements_of x)) q in
-    added_three old mid next new (elements_of c) (elements_of a) (elements_of b) first second third ∙ ap (λ x. old ++ seen_reads x) (sym e)
+-- nothing is asked of a value that is not simple
+pub not_simple : (value : Expr) {G : Type 0} → is_simple_value value ≡ false → is_simple_value value ≡ true → G
+not_simple value h k = let wrong : false ≡ true = sym h ∙ k in cc
 
 pub no_part : (value : Expr) (old : List code.Seen) → elements_of value ≡ [] → old ≡ old ++ seen_reads (elements_of value)
 no_part value old e = sym (append-nil old) ∙ ap (λ x. old ++ seen_reads x) (sym e)
@@ -113,3 +98,19 @@ seen_next all i e old new at within h k =
 pub seen_all : (all : List Stmt) (i : ℕ) (old : List code.Seen) → length all ≤ i → old ≡ map seen_of (flat_map statement_accesses (take i all))
     → old ≡ map seen_of (flat_map statement_accesses all)
 seen_all all i old past h = h ∙ ap (λ l. map seen_of (flat_map statement_accesses l)) (take_all i all past)
+
+-- each statement of a list of simple ones is simple
+pub simple_item : (all : List Stmt) (i : ℕ) (e : Stmt) → list_all is_simple_statement all ≡ true → e ≡ get_or all i e → i < length all → is_simple_statement e ≡ true
+simple_item all i e h at within = ap is_simple_statement at ∙ passes_at all i e h within
+  where
+    passes_at : (xs : List Stmt) (k : ℕ) (d : Stmt) → list_all is_simple_statement xs ≡ true → k < length xs → is_simple_statement (get_or xs k d) ≡ true
+    passes_at [] k d h within = absurd (omega (arith, within))
+    passes_at (x ∷ xs) zero d h within = (and_parts (is_simple_statement x) (list_all is_simple_statement xs) h).0
+    passes_at (x ∷ xs) (suc k) d h within = passes_at xs k d (and_parts (is_simple_statement x) (list_all is_simple_statement xs) h).1 (omega (arith, within))
+
+-- the statements of a simple loop are simple
+pub simple_body : (head : Loop) → is_simple_loop head ≡ true → list_all is_simple_statement (out-Loop head).body ≡ true
+simple_body head h =
+    let l = out-Loop head in
+    let rest = and_parts (is_less l.test && int_eq l.step (pos 1)) ((is_literal l.start && is_literal l.limit) && list_all is_simple_statement l.body) h in
+    (and_parts (is_literal l.start && is_literal l.limit) (list_all is_simple_statement l.body) rest.1).1

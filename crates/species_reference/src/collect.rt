@@ -44,19 +44,9 @@ fn add_reads(value: &Expr, found: &mut Vec<Seen>) -> Result<(), OutOfMemory>
             add_reads(a.get(), found)?;
             add_reads(b.get(), found)?;
         }
-        Expr::And(a, b) => {
-            add_reads(a.get(), found)?;
-            add_reads(b.get(), found)?;
-        }
-        Expr::Or(a, b) => {
-            add_reads(a.get(), found)?;
-            add_reads(b.get(), found)?;
-        }
-        Expr::Cond(test, a, b) => {
-            add_reads(test.get(), found)?;
-            add_reads(a.get(), found)?;
-            add_reads(b.get(), found)?;
-        }
+        Expr::And(_, _) => {}
+        Expr::Or(_, _) => {}
+        Expr::Cond(_, _, _) => {}
         Expr::Literal(_) => {}
         Expr::Iter(_) => {}
         Expr::Local(_) => {}

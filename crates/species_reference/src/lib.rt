@@ -1,15 +1,17 @@
 //! The array references of a loop: which elements one turn reads and writes, in order of evaluation.
 #![tactic(auto)]
 
-ghost use Rattle.std.specs.Prelude.{◌≡◌, ◌≤◌, ◌<◌, ◌+◌, ◌^◌, ◌++◌, ◌∷◌, [], pos, length, map, IfOk, OnOk, IsTrue};
-ghost use Rattle.species_reference.specs.Form.{IsOneLoop};
+ghost use Rattle.std.specs.Prelude.{◌≡◌, ◌<◌, ◌^◌, length, IfOk, IsTrue};
 ghost use Rattle.species_reference.specs.References.{references_of};
 ghost use Rattle.species_reference.specs.Seen.{given};
+ghost use Rattle.species_reference.specs.Shape.{is_simple_loop};
 
 mod collect;
+mod shape;
 
 use collect::Seen;
-use species_ast::{Loop, OutOfMemory, Unit};
+pub use shape::has_simple_loops;
+use species_ast::{Loop, OutOfMemory};
 use std::alloc::Global;
 
 /// Whether a reference reads an element or writes it.
@@ -19,8 +21,8 @@ pub enum Dir {
     Write,
 }
 
-/// A reference of a one-loop program: its number in order of evaluation, its array, its direction,
-/// and what its subscript adds to the iterator.
+/// A reference of a simple loop: its number in order of evaluation, its array, its direction, and what its subscript
+/// adds to the iterator.
 #[derive(Clone, Copy, Debug, PartialEq, Eq)]
 pub struct FirstReference {
     pub number: u32,
@@ -29,19 +31,18 @@ pub struct FirstReference {
     pub offset: i64,
 }
 
-/// The references of the loop of a one-loop program, statement by statement: the reads in the order
-/// of the text, then the write.
-pub fn first_references(
-    alloc: Global,
-    unit: &Unit,
-    head: &Loop,
-) -> Result<Vec<FirstReference>, OutOfMemory>
-    requires { IsOneLoop unit.now head.now }
+/// The references of a simple loop, statement by statement: the reads in the order of the text, then the write. From
+/// 2^32 of them on, memory is wanting.
+pub fn first_references(alloc: Global, head: &Loop) -> Result<Vec<FirstReference>, OutOfMemory>
+    requires { IsTrue (is_simple_loop head.now) }
     ensures { IfOk result (λ found. found.items ≡ references_of head.now) }
 {
     let mut seen = Vec::new(alloc);
     for statement in head.body.as_slice() {
         collect::add_statement(statement, &mut seen)?;
+    }
+    if seen.len() > u32::MAX as usize {
+        return Err(OutOfMemory);
     }
     number(alloc, &seen)
 }

@@ -8,3 +8,4 @@ mod GroupLemmas
 pub mod BoxLaws
 pub mod TurnLaws
 mod Examples
+mod OneLemmas

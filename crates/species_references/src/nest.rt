@@ -67,7 +67,7 @@ pub fn references(
 }
 
 /// The occurrences as references.
-fn resolved(
+pub(crate) fn resolved(
     alloc: Global,
     unit: &Unit,
     inner: usize,

@@ -76,9 +76,9 @@ fn add_reads<'a>(
             add_reads(alloc, a.get(), path, conditional, found)?;
             add_reads(alloc, b.get(), path, conditional, found)?;
         }
-        Expr::And(a, b) => {
-            add_reads(alloc, a.get(), path, conditional, found)?;
-            add_reads(alloc, b.get(), path, true, found)?;
+        Expr::And(left, right) => {
+            add_reads(alloc, left.get(), path, conditional, found)?;
+            add_reads(alloc, right.get(), path, true, found)?;
         }
         Expr::Or(a, b) => {
             add_reads(alloc, a.get(), path, conditional, found)?;

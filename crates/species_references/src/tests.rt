@@ -1,4 +1,6 @@
-//! References by array, with ample memory.
+//! References of nests, and references by array, with ample memory.
+mod nests;
+mod trees;
 
 use super::*;
 use species_arcs::Dir;

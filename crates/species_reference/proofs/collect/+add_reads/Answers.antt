@@ -3,7 +3,7 @@ use Rattle.species_reference.specs.References.{elements_of}
 use Rattle.species_reference.specs.Seen.{seen_reads}
 use Rattle.species_reference.specs.Shape.{is_simple_value}
 use Rattle.species_reference.proofs.Elements as eq
-use Rattle.species_reference.proofs.SeenLemmas.{no_part, one_part, two_parts, three_parts}
+use Rattle.species_reference.proofs.SeenLemmas.{no_part, one_part, two_parts, not_simple}
 use Rattle.species_reference.proofs.collect.+add_reads.Goals as goal
 
 pub returns-in_ok-add_access-in-Elem : goal.returns-in_ok-add_access-in-Elem
@@ -30,24 +30,14 @@ returns-in_ok-add_reads-in-Binary-2 t c =
     (ap is_simple_value c.in-Binary.is ∙ eq.simple-Binary c.in-Binary.field-0 c.in-Binary.a c.in-Binary.b) (ap elements_of c.in-Binary.is ∙ eq.elements-Binary c.in-Binary.field-0 c.in-Binary.a c.in-Binary.b)
     c.get-in-Binary.ensures c.get-in-Binary-2.ensures c.in_ok-add_reads-in-Binary.ensures c.in_ok-add_reads-in-Binary-2.ensures
 
-pub returns-in_ok-add_reads-in-And-2 : goal.returns-in_ok-add_reads-in-And-2
-returns-in_ok-add_reads-in-And-2 t c =
-    two_parts c.args.value.now c.in-And.a c.in-And.b c.get-in-And.result.now c.get-in-And-2.result.now _ _ _
-    (ap is_simple_value c.in-And.is ∙ eq.simple-And c.in-And.a c.in-And.b) (ap elements_of c.in-And.is ∙ eq.elements-And c.in-And.a c.in-And.b)
-    c.get-in-And.ensures c.get-in-And-2.ensures c.in_ok-add_reads-in-And.ensures c.in_ok-add_reads-in-And-2.ensures
+pub returns-in-And : goal.returns-in-And
+returns-in-And t c = λ simple. not_simple c.args.value.now (ap is_simple_value c.in-And.is ∙ eq.simple-And c.in-And.field-0 c.in-And.field-1) simple
 
-pub returns-in_ok-add_reads-in-Or-2 : goal.returns-in_ok-add_reads-in-Or-2
-returns-in_ok-add_reads-in-Or-2 t c =
-    two_parts c.args.value.now c.in-Or.a c.in-Or.b c.get-in-Or.result.now c.get-in-Or-2.result.now _ _ _
-    (ap is_simple_value c.in-Or.is ∙ eq.simple-Or c.in-Or.a c.in-Or.b) (ap elements_of c.in-Or.is ∙ eq.elements-Or c.in-Or.a c.in-Or.b)
-    c.get-in-Or.ensures c.get-in-Or-2.ensures c.in_ok-add_reads-in-Or.ensures c.in_ok-add_reads-in-Or-2.ensures
+pub returns-in-Or : goal.returns-in-Or
+returns-in-Or t c = λ simple. not_simple c.args.value.now (ap is_simple_value c.in-Or.is ∙ eq.simple-Or c.in-Or.field-0 c.in-Or.field-1) simple
 
-pub returns-in_ok-add_reads-in-Cond-3 : goal.returns-in_ok-add_reads-in-Cond-3
-returns-in_ok-add_reads-in-Cond-3 t c =
-    three_parts c.args.value.now c.in-Cond.test c.in-Cond.a c.in-Cond.b c.get-in-Cond.result.now c.get-in-Cond-2.result.now c.get-in-Cond-3.result.now _ _ _ _
-    (ap is_simple_value c.in-Cond.is ∙ eq.simple-Cond c.in-Cond.test c.in-Cond.a c.in-Cond.b) (ap elements_of c.in-Cond.is ∙ eq.elements-Cond c.in-Cond.test c.in-Cond.a c.in-Cond.b)
-    c.get-in-Cond.ensures c.get-in-Cond-2.ensures c.get-in-Cond-3.ensures
-    c.in_ok-add_reads-in-Cond.ensures c.in_ok-add_reads-in-Cond-2.ensures c.in_ok-add_reads-in-Cond-3.ensures
+pub returns-in-Cond : goal.returns-in-Cond
+returns-in-Cond t c = λ simple. not_simple c.args.value.now (ap is_simple_value c.in-Cond.is ∙ eq.simple-Cond c.in-Cond.field-0 c.in-Cond.field-1 c.in-Cond.field-2) simple
 
 pub returns-in-Literal : goal.returns-in-Literal
 returns-in-Literal t c = λ simple. no_part c.args.value.now c.args.found.now.items (ap elements_of c.in-Literal.is ∙ eq.elements-Literal c.in-Literal.field-0)

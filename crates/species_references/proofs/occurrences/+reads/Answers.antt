@@ -27,8 +27,8 @@ add_reads-returns-in_ok-add_reads-in-Binary-2 t c =
 
 pub add_reads-returns-in_ok-add_reads-in-And-2 : goal.add_reads-returns-in_ok-add_reads-in-And-2
 add_reads-returns-in_ok-add_reads-in-And-2 t c =
-    two_more c.args.value.now c.in-And.a c.in-And.b c.get-in-And.result.now c.get-in-And-2.result.now (ranges_seen c.args.path.now) c.args.conditional _ _ _ _
-    (ap (λ x. seen_in x (ranges_seen c.args.path.now) c.args.conditional) c.in-And.is ∙ eq.seen-And c.in-And.a c.in-And.b (ranges_seen c.args.path.now) c.args.conditional)
+    two_more c.args.value.now c.in-And.left c.in-And.right c.get-in-And.result.now c.get-in-And-2.result.now (ranges_seen c.args.path.now) c.args.conditional _ _ _ _
+    (ap (λ x. seen_in x (ranges_seen c.args.path.now) c.args.conditional) c.in-And.is ∙ eq.seen-And c.in-And.left c.in-And.right (ranges_seen c.args.path.now) c.args.conditional)
     c.get-in-And.ensures c.get-in-And-2.ensures c.in_ok-add_reads-in-And.ensures c.in_ok-add_reads-in-And-2.ensures
 
 pub add_reads-returns-in_ok-add_reads-in-Or-2 : goal.add_reads-returns-in_ok-add_reads-in-Or-2
