@@ -1,6 +1,6 @@
 -- The least number so far, and the first pair so far.
 use Rattle.std.proofs.Common.{◌≡◌, refl, sym, ◌∙◌, subst, arith, ℕ, ◌+◌, ◌<◌, ◌≤◌, List, length, ◌⊎◌, inl, inr, Option, Some, None, All}
-use Rattle.std.specs.Prelude.{slice_index_or}
+use Rattle.std.specs.Prelude.{slice_index_or, IfNone, IfSome}
 use Rattle.std.specs.List.{Any}
 use Rattle.std.proofs.lemmas.List.{get_or_default}
 use Rattle.std.proofs.lemmas.Bool.{cases_lt}
@@ -24,7 +24,7 @@ before_or_at k i h = elim (cases_lt k i) [
 pub at_place : (refs : List Reference) (i k : ℕ) (q d : Reference) → i < length refs → q ≡ slice_index_or refs i q → k ≡ i → slice_index_or refs k d ≡ q
 at_place refs i k q d below is same = rw same (get_or_default refs i d q below ∙ sym is)
 
-not_less : (k m : ℕ) → ¬ (k < m) → m ≤ k
+pub not_less : (k m : ℕ) → ¬ (k < m) → m ≤ k
 not_less k m h = omega (arith, h)
 
 pub keep_least : (P : Reference → Type 0) (refs : List Reference) (i : ℕ) (q : Reference) (least : Option ℕ) → i < length refs → q ≡ slice_index_or refs i q →
@@ -119,3 +119,33 @@ take_first C refs i p found n below is before least not = (
 pub first_end : (C : Reference → Reference → Type 0) (refs : List Reference) (i : ℕ) (found : Option (ℕ × ℕ)) → length refs ≤ i → i ≤ length refs → IsFirstBelow C refs i found → IsFirstOf C refs found
 first_end C refs i None most few h = λ k d below. h k d (omega (arith, below, most))
 first_end C refs i (Some f) most few h = ((h.0.0, h.0.1, omega (arith, h.0.2, few), h.0.3, h.0.4), (λ k d below. h.1 k d (omega (arith, below, most))))
+
+-- ---- what an answer of the search over one reference says
+
+pub if_some : (P : ℕ → Type 0) (o : Option ℕ) (n : ℕ) → o ≡ Some n → IfSome o P → P n
+if_some P o n is h = subst (λ (x : Option ℕ). IfSome x P) is h
+
+pub if_none : (P : Type 0) (o : Option ℕ) → o ≡ None → IfNone o P → P
+if_none P o is h = subst (λ (x : Option ℕ). IfNone x P) is h
+
+-- no pair of the reference at the place i comes before the one found
+pub keep_there : (C : Reference → Reference → Type 0) (refs : List Reference) (i : ℕ) (found : Option (ℕ × ℕ)) → IsFirstBelow C refs i found
+    → ((d : Reference) → All (λ q. C (slice_index_or refs i d) q → AtOrBefore found (slice_index_or refs i d).number q.number) refs) → IsFirstBelow C refs (i + 1) found
+keep_there C refs i None before here = λ k d h. elim (before_or_at k i h) [
+  | inl less ↦ before k d less
+  | inr same ↦ subst (λ (m : ℕ). All (λ q. ¬ C (slice_index_or refs m d) q) refs) (sym same) (here d)
+]
+keep_there C refs i (Some f) before here = (
+  (before.0.0, before.0.1, omega (arith, before.0.2), before.0.3, before.0.4),
+  (λ k d h. elim (before_or_at k i h) [
+    | inl less ↦ before.1 k d less
+    | inr same ↦ subst (λ (m : ℕ). All (λ q. C (slice_index_or refs m d) q → Precedes f (slice_index_or refs m d).number q.number) refs) (sym same) (here d)
+  ]),
+)
+
+-- the least pair of the reference at the place i comes before the one found
+pub take_there : (C : Reference → Reference → Type 0) (refs list : List Reference) (i : ℕ) (p : Reference) (found : Option (ℕ × ℕ)) (n : ℕ) → list ≡ refs → i < length refs → IsFirstBelow C refs i found
+    → IsLeastNumber (C (slice_index_or refs i p)) refs (Some n) × ¬ AtOrBefore found (slice_index_or refs i p).number n → IsFirstBelow C refs (i + 1) (Some ((slice_index_or list i p).number, n))
+take_there C refs list i p found n same below before one =
+    subst (λ (xs : List Reference). IsFirstBelow C refs (i + 1) (Some ((slice_index_or xs i p).number, n))) (sym same)
+    (take_first C refs i (slice_index_or refs i p) found n below (get_or_default refs i p (slice_index_or refs i p) below) before one.0 one.1)

@@ -6,10 +6,11 @@ use Rattle.std.proofs.lemmas.Bool.{cases_lt}
 use Rattle.std.proofs.lemmas.Bool.Decides.{nat_tests}
 use Rattle.species_references.specs.declared.nest.Reference.{Reference}
 use Rattle.species_references.specs.Groups.{places_from, places_of}
-use Rattle.species_depend.specs.Carried.{IsNear, IsLeastNumber, Carries}
+use Rattle.species_depend.specs.Refuted.{directed, IsTestable}
+use Rattle.species_depend.specs.Carried.{IsNear, IsLeastNumber, Carries, AtOrBefore, AreAsked}
 use Rattle.species_depend.specs.Alike.{IsAlike, HasTwin}
 use Rattle.species_depend.proofs.LeastLemmas.{before_or_at, not_less}
-use Rattle.species_depend.proofs.AlikeLemmas.{carries_alike, alike_itself}
+use Rattle.species_depend.proofs.AlikeLemmas.{carries_alike, alike_itself, asked_here}
 
 -- ---- places rise, and are those of the list
 
@@ -161,11 +162,90 @@ pub among_end : (refs : List Reference) (outer level : ℕ) (exempt : List ℕ) 
     → IsLeastAmong (Carries outer level exempt p) refs (places_of array refs) g least → IsLeastNumber (Carries outer level exempt p) refs least
 among_end refs outer level exempt array g p None all named h = λ k d below c.
     let place = place_found 0 array refs k d below (sym c.array ∙ named) in
-    h place.0 d (omega (arith, place.1, all)) (subst (λ (n : ℕ). Carries outer level exempt p (slice_index_or refs n d)) (sym place.2) c)
+    let there : slice_index_or (places_of array refs) place.0 0 ≡ k = omega (arith, place.2) in
+    h place.0 d (omega (arith, place.1, all)) (subst (λ (n : ℕ). Carries outer level exempt p (slice_index_or refs n d)) (sym there) c)
 among_end refs outer level exempt array g p (Some n) all named h = (
   (h.0.0, h.0.1, h.0.2, h.0.3, h.0.4),
   (λ k d below c.
       let place = place_found 0 array refs k d below (sym c.array ∙ named) in
-      subst (λ (m : ℕ). n ≤ (slice_index_or refs m d).number) place.2
-      (h.1 place.0 d (omega (arith, place.1, all)) (subst (λ (m : ℕ). Carries outer level exempt p (slice_index_or refs m d)) (sym place.2) c))),
+      let there : slice_index_or (places_of array refs) place.0 0 ≡ k = omega (arith, place.2) in
+      subst (λ (m : ℕ). n ≤ (slice_index_or refs m d).number) there
+      (h.1 place.0 d (omega (arith, place.1, all)) (subst (λ (m : ℕ). Carries outer level exempt p (slice_index_or refs m d)) (sym there) c))),
 )
+
+-- ---- the same, over the list and the places that the code holds
+
+pub place_inside : (refs list : List Reference) (ks : List ℕ) (array g : ℕ) → list ≡ refs → ks ≡ places_of array refs → g < length ks → slice_index_or ks g 0 < length list
+place_inside refs list ks array g same named inside =
+    let below : slice_index_or ks g 0 < 0 + length refs = subst (λ (xs : List ℕ). g < length xs → slice_index_or xs g 0 < 0 + length refs) (sym named) (place_below 0 array refs g) inside in
+    subst (λ (xs : List Reference). slice_index_or ks g 0 < length xs) (sym same) (omega (arith, below))
+
+-- a reference that the code reads is that of the list, whatever the default
+pub read_there : (refs list : List Reference) (i : ℕ) (p d : Reference) → list ≡ refs → i < length refs → p ≡ slice_index_or list i p → p ≡ slice_index_or refs i d
+read_there refs list i p d same below is = subst (λ (xs : List Reference). p ≡ slice_index_or xs i p) same is ∙ get_or_default refs i p d below
+
+pub asked_there : (refs list : List Reference) (outer level i j : ℕ) (p q : Reference) → list ≡ refs → i < length refs → j < length list → p ≡ slice_index_or list i p → q ≡ slice_index_or list j q
+    → AreAsked refs outer level → p.array ≡ q.array → IsTestable (directed outer level true) p q
+asked_there refs list outer level i j p q same below below_list is_p is_q asked =
+    let below_other : j < length refs = subst (λ (xs : List Reference). j < length xs) same below_list in
+    asked_here refs outer level i j p q below below_other (read_there refs list i p p same below is_p) (read_there refs list j q q same below_other is_q) asked
+
+pub skip_place : (refs list : List Reference) (ks : List ℕ) (outer level : ℕ) (exempt : List ℕ) (g : ℕ) (p : Reference) (least : Option ℕ) → list ≡ refs → ks ≡ places_of p.array refs → g < length ks
+    → HasTwin list (slice_index_or ks g 0) p.number → IsLeastAmong (Carries outer level exempt p) refs (places_of p.array refs) g least
+    → IsLeastAmong (Carries outer level exempt p) refs (places_of p.array refs) (g + 1) least
+skip_place refs list ks outer level exempt g p least same named inside twin before =
+    let k = slice_index_or (places_of p.array refs) g 0 in
+    let here : g < length (places_of p.array refs) = subst (λ (xs : List ℕ). g < length xs) named inside in
+    let below : k < length refs = omega (arith, place_below 0 p.array refs g here) in
+    let found : HasTwin refs k p.number = subst (λ (xs : List ℕ). HasTwin refs (slice_index_or xs g 0) p.number) named (subst (λ (xs : List Reference). HasTwin xs (slice_index_or ks g 0) p.number) same twin) in
+    skip_among refs outer level exempt p.array g k p (slice_index_or refs k p) least here below refl (get_or_default refs k p (slice_index_or refs k p) below) refl found before
+
+-- the reference at the next place, as the code reads it
+abbrev IsRead : List Reference → List ℕ → ℕ → Reference → Type 0
+IsRead refs ks g q = (slice_index_or ks g 0 < length refs) × (q ≡ slice_index_or refs (slice_index_or ks g 0) q)
+
+read_next : (refs list : List Reference) (ks : List ℕ) (array g : ℕ) (q : Reference) → list ≡ refs → ks ≡ places_of array refs → g < length ks → q ≡ slice_index_or list (slice_index_or ks g 0) q
+    → IsRead refs (places_of array refs) g q
+read_next refs list ks array g q same named inside is =
+    let below : slice_index_or ks g 0 < length refs = subst (λ (xs : List Reference). slice_index_or ks g 0 < length xs) same (place_inside refs list ks array g same named inside) in
+    subst (λ (xs : List ℕ). IsRead refs xs g q) named (below, subst (λ (xs : List Reference). q ≡ slice_index_or xs (slice_index_or ks g 0) q) same is)
+
+pub take_place : (refs list : List Reference) (ks : List ℕ) (outer level : ℕ) (exempt : List ℕ) (g : ℕ) (p q : Reference) (least : Option ℕ) → list ≡ refs → ks ≡ places_of p.array refs → g < length ks
+    → q ≡ slice_index_or list (slice_index_or ks g 0) q → IsLeastAmong (Carries outer level exempt p) refs (places_of p.array refs) g least → IsNear q.number least → Carries outer level exempt p q
+    → IsLeastAmong (Carries outer level exempt p) refs (places_of p.array refs) (g + 1) (Some q.number)
+take_place refs list ks outer level exempt g p q least same named inside is before near carries =
+    let read = read_next refs list ks p.array g q same named inside is in
+    take_among (Carries outer level exempt p) refs (places_of p.array refs) g (slice_index_or (places_of p.array refs) g 0) q least read.0 refl read.1 before near carries
+
+pub keep_place : (refs list : List Reference) (ks : List ℕ) (outer level : ℕ) (exempt : List ℕ) (g : ℕ) (p q : Reference) (least : Option ℕ) → list ≡ refs → ks ≡ places_of p.array refs → g < length ks
+    → q ≡ slice_index_or list (slice_index_or ks g 0) q → IsLeastAmong (Carries outer level exempt p) refs (places_of p.array refs) g least → ¬ (IsNear q.number least × Carries outer level exempt p q)
+    → IsLeastAmong (Carries outer level exempt p) refs (places_of p.array refs) (g + 1) least
+keep_place refs list ks outer level exempt g p q least same named inside is before not =
+    let read = read_next refs list ks p.array g q same named inside is in
+    keep_among (Carries outer level exempt p) refs (places_of p.array refs) g (slice_index_or (places_of p.array refs) g 0) q least read.0 refl read.1 before not
+
+pub least_there : (refs list : List Reference) (ks : List ℕ) (outer level : ℕ) (exempt : List ℕ) (first g : ℕ) (p : Reference) (least : Option ℕ) → list ≡ refs → ks ≡ places_of p.array refs → length ks ≤ g
+    → first < length refs → p ≡ slice_index_or list first p → IsLeastAmong (Carries outer level exempt p) refs (places_of p.array refs) g least
+    → (d : Reference) → IsLeastNumber (Carries outer level exempt (slice_index_or refs first d)) refs least
+least_there refs list ks outer level exempt first g p least same named all below is before d =
+    subst (λ (x : Reference). IsLeastNumber (Carries outer level exempt x) refs least) (read_there refs list first p d same below is)
+    (among_end refs outer level exempt p.array g p least (subst (λ (xs : List ℕ). length xs ≤ g) named all) refl before)
+
+-- ---- whether the least pair of a reference comes before the one found
+
+later : (found : Option (ℕ × ℕ)) (k l m : ℕ) → AtOrBefore found k l → l ≤ m → AtOrBefore found k m
+later None k l m h more = absurd h
+later (Some f) k l m h more = (h.0, λ e. omega (arith, more, h.1 e))
+
+pub none_before : (refs list : List Reference) (outer level : ℕ) (exempt : List ℕ) (found : Option (ℕ × ℕ)) (first n : ℕ) (p : Reference) → list ≡ refs → first < length refs → p ≡ slice_index_or list first p
+    → ((d : Reference) → IsLeastNumber (Carries outer level exempt (slice_index_or refs first d)) refs (Some n)) → AtOrBefore found p.number n
+    → (d : Reference) → All (λ q. Carries outer level exempt (slice_index_or refs first d) q → AtOrBefore found (slice_index_or refs first d).number q.number) refs
+none_before refs list outer level exempt found first n p same below is least at d k e under c =
+    subst (λ (x : Reference). AtOrBefore found x.number (slice_index_or refs k e).number) (read_there refs list first p d same below is)
+    (later found p.number n (slice_index_or refs k e).number at ((least d).1 k e under c))
+
+pub one_before : (refs list : List Reference) (outer level : ℕ) (exempt : List ℕ) (found : Option (ℕ × ℕ)) (first n : ℕ) (p : Reference) → list ≡ refs → first < length refs → p ≡ slice_index_or list first p
+    → ((d : Reference) → IsLeastNumber (Carries outer level exempt (slice_index_or refs first d)) refs (Some n)) → ¬ AtOrBefore found p.number n
+    → (d : Reference) → IsLeastNumber (Carries outer level exempt (slice_index_or refs first d)) refs (Some n) × ¬ AtOrBefore found (slice_index_or refs first d).number n
+one_before refs list outer level exempt found first n p same below is least not d =
+    (least d, λ at. not (subst (λ (x : Reference). AtOrBefore found x.number n) (sym (read_there refs list first p d same below is)) at))

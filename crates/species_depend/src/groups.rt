@@ -8,7 +8,7 @@ ghost use Rattle.species_references.specs.declared.nest.Reference.{Reference};
 ghost use Rattle.species_depend.specs.Carried.{Carries, IsLeastNumber, AtOrBefore, IsFirstOf, AreAsked};
 
 use crate::alike::has_twin;
-use crate::carried::{is_at_or_before, is_better, is_past};
+use crate::search::{is_at_or_before, is_better, is_past};
 use species_references::Grouped;
 
 /// The least number of a reference with which the level carries the one at this place, in this order.

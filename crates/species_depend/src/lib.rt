@@ -9,13 +9,13 @@
 ghost use Rattle.species_depend.specs.Law.{RefutedNeverMeet, FreeBandsNeverMeet};
 
 mod alike;
-mod carried;
 mod groups;
-mod refuted;
+mod refutation;
+mod search;
 
-pub use carried::carried;
 pub use groups::carried_in;
-pub use refuted::refuted;
+pub use refutation::refuted;
+pub use search::carried;
 
 /// Accesses that a refuted pair makes, at points of the region in which it is refuted, are not to one
 /// element; and where no level of a band carries a pair, no two of its iterations touch one element, but

@@ -1,22 +1,15 @@
 use Rattle.std.proofs.Common.{◌≡◌, subst, sym, ℕ, ◌+◌, All, Option, Some, None, true}
-use Rattle.std.specs.Prelude.{IfNone, IfSome}
 use Rattle.species_references.specs.declared.nest.Reference.{Reference}
 use Rattle.species_depend.specs.Refuted.{directed, IsTestable}
 use Rattle.species_depend.specs.Carried.{Carries, IsLeastNumber, AtOrBefore}
-use Rattle.species_depend.proofs.LeastLemmas.{IsFirstBelow, keep_first, take_first, first_end}
-use Rattle.species_depend.proofs.carried.carried.Goals.{in-Some, in_default}
-use Rattle.species_depend.proofs.carried.carried.Goals as goal
+use Rattle.species_depend.proofs.LeastLemmas.{IsFirstBelow, if_some, if_none, keep_first, take_first, first_end}
+use Rattle.species_depend.proofs.search.carried.Goals.{in-Some, in_default}
+use Rattle.species_depend.proofs.search.carried.Goals as goal
 
 pub first_from-requires : goal.first_from-requires
 first_from-requires c =
     subst (λ (p : Reference). All (λ q. p.array ≡ q.array → IsTestable (directed c.args.outer c.args.level true) p q) c.args.refs.now) (sym c.p-item.is)
     (c.requires c.loop-p.p-index c.p-item.result c.loop-p-test.true)
-
-if_some : (P : ℕ → Type 0) (o : Option ℕ) (n : ℕ) → o ≡ Some n → IfSome o P → P n
-if_some P o n is h = subst (λ (x : Option ℕ). IfSome x P) is h
-
-if_none : (P : Type 0) (o : Option ℕ) → o ≡ None → IfNone o P → P
-if_none P o is h = subst (λ (x : Option ℕ). IfNone x P) is h
 
 pub loop-p-preserved : goal.loop-p-preserved
 loop-p-preserved c =

@@ -1,8 +1,8 @@
 use Rattle.std.proofs.Common.{subst, sym, ℕ, ◌+◌, Option}
 use Rattle.species_depend.specs.Carried.{Carries}
 use Rattle.species_depend.proofs.LeastLemmas.{IsLeastBelow, keep_least, take_least, least_end}
-use Rattle.species_depend.proofs.carried.first_with.Goals.{then-is_better, else-is_better}
-use Rattle.species_depend.proofs.carried.first_with.Goals as goal
+use Rattle.species_depend.proofs.search.first_with.Goals.{then-is_better, else-is_better}
+use Rattle.species_depend.proofs.search.first_with.Goals as goal
 
 pub loop-q-preserved : goal.loop-q-preserved
 loop-q-preserved c =

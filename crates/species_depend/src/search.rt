@@ -4,7 +4,7 @@ ghost use Rattle.std.specs.Prelude.{◌≡◌, ◌↔◌, ℕ, true, IsTrue, Som
 ghost use Rattle.species_depend.specs.Refuted.{IsTestable, directed};
 ghost use Rattle.species_depend.specs.Carried.{IsWritten, IsPossible, Carries, IsNear, IsLeastNumber, AtOrBefore, IsFirstOf, AreAsked};
 
-use crate::refuted::refuted;
+use crate::refutation::refuted;
 use species_arcs::Dir;
 use species_linear::Direction;
 use species_references::Reference;
