@@ -1,5 +1,5 @@
 -- A pair of references that is refuted in a direction names no one place from a pair of points of its region.
-use Rattle.std.proofs.Common.{◌≡◌, ap, sym, ◌∙◌, arith, ℕ, zero, suc, List, [], ◌∷◌, length, ℤ, pos, Option, Some, None, inl, inr, All}
+use Rattle.std.proofs.Common.{◌≡◌, sym, ◌∙◌, arith, ℕ, zero, suc, List, [], ◌∷◌, length, ℤ, pos, Option, Some, None, inl, inr, All}
 use Rattle.std.specs.Prelude.{slice_index_or}
 use Rattle.std.proofs.lemmas.Int.{ints}
 use Rattle.species_affine.proofs.FormLaws.{same_value}

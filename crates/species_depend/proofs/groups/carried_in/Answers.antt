@@ -1,5 +1,5 @@
-use Rattle.std.proofs.Common.{◌≡◌, subst, sym, ℕ, ◌+◌, ◌<◌, ◌≤◌, List, length, Option, Some, None, All}
-use Rattle.std.specs.Prelude.{slice_index_or, IfNone, IfSome}
+use Rattle.std.proofs.Common.{subst, sym, ℕ, ◌+◌, ◌<◌, ◌≤◌, List, length, Option, Some, All}
+use Rattle.std.specs.Prelude.{slice_index_or}
 use Rattle.species_references.specs.declared.nest.Reference.{Reference}
 use Rattle.species_depend.specs.Carried.{Carries, IsLeastNumber, AtOrBefore}
 use Rattle.species_depend.specs.Alike.{HasTwin}

@@ -1,4 +1,4 @@
-use Rattle.std.proofs.Common.{◌≡◌, subst, sym, arith, rules, ℕ, ◌+◌, ◌<◌, length, Option}
+use Rattle.std.proofs.Common.{subst, sym, rules, ℕ, ◌+◌, ◌<◌, length, Option}
 use Rattle.std.specs.Prelude.{slice_index_or}
 use Rattle.species_references.specs.Groups.{places_of}
 use Rattle.species_depend.specs.Carried.{Carries}

@@ -1,4 +1,3 @@
-use Rattle.std.specs.Prelude.{slice_index_or}
 use Rattle.species_references.specs.Groups.{places_of}
 use Rattle.species_depend.specs.Carried.{Carries}
 use Rattle.species_depend.proofs.PlaceLemmas.{IsLeastAmong}

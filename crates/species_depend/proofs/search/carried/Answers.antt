@@ -1,4 +1,4 @@
-use Rattle.std.proofs.Common.{◌≡◌, subst, sym, ℕ, ◌+◌, All, Option, Some, None, true}
+use Rattle.std.proofs.Common.{◌≡◌, subst, sym, ℕ, ◌+◌, All, Option, Some, true}
 use Rattle.species_references.specs.declared.nest.Reference.{Reference}
 use Rattle.species_depend.specs.Refuted.{directed, IsTestable}
 use Rattle.species_depend.specs.Carried.{Carries, IsLeastNumber, AtOrBefore}
