@@ -1,0 +1,4 @@
+pub mod Refuted
+pub mod Carried
+pub mod Alike
+pub mod Law
