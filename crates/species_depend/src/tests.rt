@@ -109,19 +109,32 @@ fn reference(
     })
 }
 
+/// The number at a place, which behind the last is the place.
+fn number_at(numbers: &[u32], place: usize) -> u32
+    requires { place < 2 ^ 32 }
+{
+    match numbers.get(place) {
+        Some(number) => *number,
+        None => place as u32,
+    }
+}
+
+/// References with these numbers, and behind these with their places as numbers.
 fn references(
     alloc: Global,
     path: &[LoopRange],
+    numbers: &[u32],
     rows: &[Row],
 ) -> Result<Vec<Reference>, OutOfMemory>
+    requires few { length rows.now < 2 ^ 32 }
     requires rows { All (λ r. (unsigned_abs r.factor < 2 ^ 70) × (unsigned_abs r.constant < 2 ^ 70)) rows.now }
     requires path { IsSmallPath path.now }
     requires some { 0 < length path.now }
     ensures { IfOk result (λ refs. All (λ r. (r.path ≡ path.now) × IsSmallReference r) refs.items) }
 {
     let mut all = Vec::new(alloc);
-    for (number, row) in rows.iter().enumerate() {
-        all.push(reference(alloc, number as u32, *row, path)?)?;
+    for (place, row) in rows.iter().enumerate() {
+        all.push(reference(alloc, number_at(numbers, place), *row, path)?)?;
     }
     Ok(all)
 }
@@ -133,11 +146,12 @@ fn first_of(
     rows: &[Row],
     exempt: &[u32],
 ) -> Result<[Option<(u32, u32)>; 2], OutOfMemory>
+    requires few { length rows.now < 2 ^ 32 }
     requires rows { All (λ r. (unsigned_abs r.factor < 2 ^ 70) × (unsigned_abs r.constant < 2 ^ 70)) rows.now }
     requires path { IsSmallPath path.now }
     requires some { 0 < length path.now }
 {
-    let refs = references(alloc, path, rows)?;
+    let refs = references(alloc, path, &[], rows)?;
     let found = carried(refs.as_slice(), 0, 0, exempt);
     let grouped = group(alloc, refs)?;
     Ok([found, carried_in(&grouped, 0, 0, exempt)])
@@ -193,10 +207,8 @@ fn one_loop(rt: HostRuntime) -> Result<(), Fail> {
 fn numbers_in_any_order(rt: HostRuntime) -> Result<(), Fail> {
     let alloc = rt.alloc();
     let path = [from_to(0, 63)];
-    let mut refs = Vec::new(alloc);
-    refs.push(reference(alloc, 7, read(0, 1, 1), &path)?)?;
-    refs.push(reference(alloc, 5, write(0, 1, 0), &path)?)?;
-    refs.push(reference(alloc, 3, read(0, 1, 1), &path)?)?;
+    let rows = [read(0, 1, 1), write(0, 1, 0), read(0, 1, 1)];
+    let refs = references(alloc, &path, &[7, 5, 3], &rows)?;
     assert_eq!(rt; carried(refs.as_slice(), 0, 0, &[]), Some((3, 5)));
     let grouped = group(alloc, refs)?;
     assert_eq!(rt; carried_in(&grouped, 0, 0, &[]), Some((3, 5)));
