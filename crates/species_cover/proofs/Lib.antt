@@ -3,3 +3,4 @@ mod ListLemmas
 pub mod CoverLaws
 mod FoundLemmas
 mod DimLemmas
+mod StrideExamples
