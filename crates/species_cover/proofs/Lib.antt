@@ -3,4 +3,3 @@ mod ListLemmas
 pub mod CoverLaws
 mod FoundLemmas
 mod DimLemmas
-mod StrideExamples
