@@ -5,6 +5,7 @@ mod refusal;
 mod table;
 mod top;
 
+pub use species_reading::{InputRefusal, ProgramRefusal, read_program, read_program_from};
 pub use top::species;
 
 #[cfg(test)]
