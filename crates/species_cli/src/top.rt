@@ -121,6 +121,7 @@ pub fn species<S: Source, K: Sink, N: Sink>(
 
     // Once more bytes than the limit came, no more is asked.
     ensures budget { GaveAtMost (most_bytes + 1) (S.left input.old) (S.left input.new) }
+    ensures failed_within { result ≡ status_read_fault → GaveAtMost most_bytes (S.left input.old) (S.left input.new) }
 
     // Where no count rose, the answer is the defined one, or there was not enough memory.
     ensures complete { (bytes : List ℕ) → S.left input.old ≡ Some bytes → IsArcs words.now

@@ -37,6 +37,6 @@ GaveAtMost most old new = (front : List ℕ) × (length front ≤ most) × (old 
 abbrev pub GaveCount : ℕ → Option (List ℕ) → Option (List ℕ) → Type 0
 GaveCount count old new = (front : List ℕ) × (length front ≡ count) × (old ≡ before front new)
 
--- the sink took the first of these bytes, perhaps none and perhaps all
+-- the sink took the first of these bytes, perhaps none, and not all
 abbrev pub TookPart : Option (List ℕ) → Option (List ℕ) → List ℕ → Type 0
-TookPart old new bytes = (front : List ℕ) × (back : List ℕ) × (bytes ≡ front ++ back) × (new ≡ then_bytes old front)
+TookPart old new bytes = (front : List ℕ) × (back : List ℕ) × (bytes ≡ front ++ back) × (0 < length back) × (new ≡ then_bytes old front)

@@ -66,6 +66,7 @@ pub fn read_whole<S: Source>(alloc: Global, src: &mut S, limit: u32) -> Result<V
     // What was taken from the source: once more than `limit` bytes came, no more is asked.
     ensures budget { GaveAtMost (limit + 1) (S.left src.old) (S.left src.new) }
     ensures stopped { result ≡ Err ReadAnswer.TooLong → GaveCount (limit + 1) (S.left src.old) (S.left src.new) }
+    ensures failed { result ≡ Err ReadAnswer.ReadFault → GaveAtMost limit (S.left src.old) (S.left src.new) }
 {
     let most = limit as usize + 1;
     let mut whole = Vec::new(alloc);
@@ -125,6 +126,7 @@ pub fn read_each<S: Source, P: Piecewise>(
     // What was taken from the source: once more than `limit` bytes came, no more is asked.
     ensures budget { GaveAtMost (limit + 1) (S.left src.old) (S.left src.new) }
     ensures stopped { result ≡ Err ReadAnswer.TooLong → GaveCount (limit + 1) (S.left src.old) (S.left src.new) }
+    ensures failed { result ≡ Err ReadAnswer.ReadFault → GaveAtMost limit (S.left src.old) (S.left src.new) }
 {
     let most = limit as usize;
     let mut handed = 0;

@@ -1,10 +1,11 @@
 -- Iterators that bounds name, and bands of loops.
-use Rattle.std.proofs.Common.{◌≡◌, ◌∙◌, refl, sym, ap, arith, ℕ, zero, suc, ◌+◌, ◌<◌, ◌≤◌, List, [], ◌∷◌, ◌++◌, map, take, length, get_or, Bool, true, false, ◌&&◌, ◌||◌, not, nat_le, nat_lt, nat_eq, ◌-◌, append-nil}
+use Rattle.std.proofs.Common.{◌≡◌, ◌∙◌, refl, sym, ap, arith, ℕ, zero, suc, ◌+◌, ◌<◌, ◌≤◌, List, [], ◌∷◌, ◌++◌, map, take, length, get_or, Bool, true, false, ◌&&◌, ◌||◌, not, nat_le, nat_lt, nat_eq, ◌-◌, min, append-nil}
 use Rattle.std.specs.List.{flat_map, list_any}
 use Rattle.std.proofs.lemmas.Bool.{and_parts}
 use Rattle.std.proofs.lemmas.Bool.Decides.{nat_tests}
 use Rattle.std.proofs.lemmas.List.{map-append, take_more}
 use Rattle.std.proofs.lemmas.Grind.{flat_map-append}
+use Rattle.std.proofs.Math.Nat.{min-eq_left, min-eq_right}
 use Rattle.species_ast.specs.declared.tree.Expr.{Expr}
 use Rattle.species_ast.specs.declared.tree.Loop.{Loop, out-Loop}
 use Rattle.species_ast.specs.declared.tree.Stmt.{Stmt}
@@ -79,24 +80,6 @@ no_front first size n = go (nat_le n 0) (take_none n)
 pub none_first : (first size : ℕ) (front : List Bounds) → keeps_out first size 0 front ≡ true
 none_first first size front = let least : nat_le 0 (length front) ≡ true = grind (arith, nat_tests) in rw least refl
 
-names_nothing : (is : List ℕ) → names_band 0 0 is ≡ false
-names_nothing [] = refl
-names_nothing (i ∷ is) =
-    let none : is_of_band 0 0 i ≡ false = grind (arith, nat_tests) in
-    ap (λ b. b || list_any (is_of_band 0 0) is) none ∙ names_nothing is
-
--- a band of no loop: their number alone is tested
-pub few_there : (n : ℕ) (front : List Bounds) → keeps_out 0 0 n front ≡ false → length front < n
-few_there n front h = go (nat_le n (length front)) refl (ap (λ b. nat_le n (length front) && not b) (sym (names_nothing (named_in (take n front)))) ∙ h)
-  where
-    go : (b : Bool) → nat_le n (length front) ≡ b → (b && true) ≡ false → length front < n
-    go true at e = absurd (cc e)
-    go false at e = grind (arith, nat_tests, at)
-
-pub few : (many : Bool) (front : List Bounds) → many ≡ keeps_out 0 0 9 front → not many ≡ true → length front < 2147483648
-few true front e h = absurd (cc h)
-few false front e h = let less : length front < 9 = few_there 9 front (sym e) in omega (arith, less)
-
 -- ---- bands
 
 any_less : (p q : ℕ → Bool) (xs : List ℕ) → ((i : ℕ) → q i ≡ true → p i ≡ true) → list_any q xs ≡ true → list_any p xs ≡ true
@@ -158,6 +141,41 @@ longest level n front h e = record {
             let past : n + 1 ≤ m = grind (arith, nat_tests, at) in
             let wrong : true ≡ false = sym (shorter level (n + 1) m front past t) ∙ e in
             absurd cc
+
+-- above a band there is a longest one
+pub some_longest : (level n : ℕ) (front : List Bounds) → is_band level front n ≡ true → (m : ℕ) × IsLongestBand level front m × (n ≤ m)
+some_longest level n front h = go (length front - n) n (omega (arith, there level n front h)) h
+  where
+    go : (fuel k : ℕ) → length front ≡ k + fuel → is_band level front k ≡ true → (m : ℕ) × IsLongestBand level front m × (k ≤ m)
+    go zero k full b = (k, longest level k front b (past (is_band level front (k + 1)) refl), omega arith)
+      where
+        past : (more : Bool) → is_band level front (k + 1) ≡ more → more ≡ false
+        past false at = refl
+        past true at = absurd (omega (arith, full, there level (k + 1) front at))
+    go (suc fuel) k full b = more (is_band level front (k + 1)) refl
+      where
+        more : (next : Bool) → is_band level front (k + 1) ≡ next → (m : ℕ) × IsLongestBand level front m × (k ≤ m)
+        more false at = (k, longest level k front b at, omega arith)
+        more true at =
+            let up = go fuel (k + 1) (omega (arith, full)) at in (up.0, up.1, omega (arith, up.2))
+
+-- the count of loops stopped at a longest band, or at the greatest number that is counted
+pub as_many : (level n : ℕ) (front : List Bounds) → is_band level front n ≡ true → (nat_lt n 4294967295 && is_band level front (n + 1)) ≡ false → n ≤ 4294967295
+    → (m : ℕ) × IsLongestBand level front m × (n ≡ min m 4294967295)
+as_many level n front h stop small = go (nat_lt n 4294967295) refl stop
+  where
+    go : (below : Bool) → nat_lt n 4294967295 ≡ below → (below && is_band level front (n + 1)) ≡ false → (m : ℕ) × IsLongestBand level front m × (n ≡ min m 4294967295)
+    go true at past = (n, longest level n front h past, sym (min-eq_left small))
+    go false at past =
+        let full : n ≡ 4294967295 = grind (arith, nat_tests, at, small) in
+        let up = some_longest level n front h in
+        (up.0, up.1, full ∙ sym (min-eq_right (omega (arith, up.2, full))))
+
+-- a count that goes on is one of loops that are there
+pub goes_on : (level n : ℕ) (front : List Bounds) → (nat_lt n 4294967295 && is_band level front (n + 1)) ≡ true → (n < 4294967295) × (is_band level front (n + 1) ≡ true)
+goes_on level n front h =
+    let parts = and_parts (nat_lt n 4294967295) (is_band level front (n + 1)) h in
+    (grind (arith, nat_tests, parts.0), parts.1)
 
 -- ---- fronts of loops and statements
 

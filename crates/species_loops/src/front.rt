@@ -1,6 +1,6 @@
 //! Perfectly nested loops, and bands of them.
 
-ghost use Rattle.std.specs.Prelude.{◌≡◌, ◌<◌, ◌^◌, ◌||◌, ◌&&◌, not, map, length};
+ghost use Rattle.std.specs.Prelude.{◌≡◌, ℕ, ◌+◌, ◌||◌, ◌&&◌, not, nat_lt, map, min};
 ghost use Rattle.species_ast.specs.Scope.Forms.{iterators_in};
 ghost use Rattle.species_ast.specs.Scope.Nests.{front_of, only_loops};
 ghost use Rattle.species_loops.specs.Bands.{front_in, iterators_of_all, is_of_band, names_band, keeps_out, is_band, IsLongestBand};
@@ -129,14 +129,21 @@ pub fn is_band(head: &Loop, level: u32, size: u32) -> bool
     keeps_out(head, size, Band { first: level, size })
 }
 
-/// How many perfectly nested loops, of which the first has this level, have bounds that name none of their iterators.
-#[tactic(auto, using(crate::proofs::FrontLaws::longest, crate::proofs::FrontLaws::there))]
+/// Whether a band of one loop more is there, and 32 bits hold its size.
+fn has_longer(head: &Loop, level: u32, size: u32) -> bool
+    ensures { result ≡ (nat_lt size 4294967295 && is_band level (front_of head.now) (size + 1)) }
+{
+    size < u32::MAX && is_band(head, level, size + 1)
+}
+
+/// How many perfectly nested loops, of which the first has this level, have bounds that name none of their iterators. The
+/// greatest number of 32 bits stands for all that they do not hold.
+#[tactic(auto, using(crate::proofs::FrontLaws::there))]
 pub fn perfect_depth(head: &Loop, level: u32) -> u32
-    requires { length (front_of head.now) < 2 ^ 31 }
-    ensures { IsLongestBand level (front_of head.now) result }
+    ensures { (n : ℕ) × IsLongestBand level (front_of head.now) n × (result ≡ min n 4294967295) }
 {
     let mut depth = 0;
-    while is_band(head, level, depth + 1) {
+    while has_longer(head, level, depth) {
         depth += 1;
     }
     depth

@@ -1,6 +1,6 @@
 //! The ranges of the loops around a place.
 
-ghost use Rattle.std.specs.Prelude.{◌≡◌, ◌<◌, [], ◌∷◌, ◌++◌, take, length, OnOk};
+ghost use Rattle.std.specs.Prelude.{◌≡◌, ◌<◌, [], ◌∷◌, ◌++◌, take, length, OnOk, OnErr};
 ghost use Rattle.species_linear.specs.Point.{IsShort};
 ghost use Rattle.species_linear.specs.Box.{HasSmallEnds, HasSmallPath};
 ghost use Rattle.species_loops.specs.Ranges.{range_seen, ranges_seen};
@@ -62,6 +62,7 @@ impl Path {
         requires { HasSmallEnds range }
         ensures kept { OnOk result (take (length self.old) self.new ≡ self.old) }
         ensures open { OnOk result (length self.old < 16 → self.new ≡ self.old ++ range_seen range ∷ []) }
+        ensures err { OnErr result (self.new ≡ self.old) }
     {
         if self.ranges.len() < MOST_RANGES {
             self.ranges.push(range)?;

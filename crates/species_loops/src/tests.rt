@@ -1,13 +1,12 @@
 //! Ranges and limits of loops, perfect nests and weights, with ample memory.
 mod trees;
 
-ghost use Rattle.std.specs.Prelude.{◌≡◌, ◌<◌, ◌^◌, true, length, IfOk, IfSome};
-ghost use Rattle.species_ast.specs.Scope.Nests.{front_of};
+ghost use Rattle.std.specs.Prelude.{◌≡◌, true, IfOk, IfSome};
 ghost use Rattle.species_linear.specs.Point.{IsShort};
 ghost use Rattle.species_linear.specs.Box.{HasSmallEnds, HasSmallPath};
 ghost use Rattle.species_loops.specs.Bounds.{IsAffine};
 
-use crate::front::{Band, keeps_out, perfect_depth};
+use crate::front::perfect_depth;
 use crate::{Path, bounds_fit, range_of, weight};
 use species_affine::{Subscript, form_of};
 use species_ast::{Expr, Loop, OutOfMemory, Stmt, Test};
@@ -225,24 +224,10 @@ fn limits_on_bounds(rt: HostRuntime) -> Result<(), Fail> {
 
 // ---- perfect nests
 
-/// Whether fewer than 9 loops are perfectly nested.
-fn is_small(head: &Loop) -> bool
-    ensures { result ≡ true → length (front_of head.now) < 2 ^ 31 }
-{
-    let none = Band { first: 0, size: 0 };
-    !keeps_out(head, 9, none)
-}
-
 /// The perfect depth of the last loop of a list, or 0 where there is none.
 fn depth(body: &[Stmt], level: u32) -> u32 {
     match body.last() {
-        Some(Stmt::For(head)) => {
-            if is_small(head) {
-                perfect_depth(head, level)
-            } else {
-                0
-            }
-        }
+        Some(Stmt::For(head)) => perfect_depth(head, level),
         _ => 0,
     }
 }

@@ -82,6 +82,7 @@ pub fn read_program_from<S: Source>(alloc: Global, src: &mut S) -> Result<Unit, 
     // What was taken from the source: once more bytes came than a program may have, no more is asked.
     ensures budget { GaveAtMost (most_bytes + 1) (S.left src.old) (S.left src.new) }
     ensures stopped { result ≡ Err InputRefusal.TooLong → GaveCount (most_bytes + 1) (S.left src.old) (S.left src.new) }
+    ensures failed { result ≡ Err InputRefusal.ReadFault → GaveAtMost most_bytes (S.left src.old) (S.left src.new) }
 {
     let mut cutter = Cutter::new(alloc);
     match read_each(src, MOST_BYTES, &mut cutter) {
