@@ -2,3 +2,11 @@ pub mod Divides
 pub mod Folding
 pub mod HullSteps
 pub mod Covering
+pub mod TermLemmas
+pub mod ClassLemmas
+pub mod BandLemmas
+pub mod SetLaws
+pub mod ReachLaws
+pub mod FreeLaws
+pub mod ExactLaws
+pub mod SettledLaws
