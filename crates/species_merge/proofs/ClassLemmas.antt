@@ -1,5 +1,5 @@
 -- Which references are alike, and that each is in some class.
-use Rattle.std.proofs.Common.{◌≡◌, ◌⊎◌, inl, inr, ◌∙◌, refl, ap, sym, subst, arith, ℕ, zero, suc, ◌+◌, ◌<◌, Bool, true, false, ◌&&◌, ◌||◌, nat_eq, if◌then◌else◌, List, [], ◌∷◌, ◌++◌, length, map, filter, ℤ}
+use Rattle.std.proofs.Common.{◌≡◌, ◌≢◌, ◌⊎◌, inl, inr, ◌∙◌, refl, ap, sym, subst, arith, ℕ, zero, suc, ◌+◌, ◌<◌, Bool, true, false, ◌&&◌, ◌||◌, nat_eq, if◌then◌else◌, List, [], ◌∷◌, ◌++◌, length, map, filter, ℤ}
 use Rattle.std.specs.List.{list_any}
 use Rattle.std.specs.Bool.{Decides}
 use Rattle.std.specs.Ordering.{int_eq}
@@ -7,6 +7,7 @@ use Rattle.std.proofs.lemmas.Bool.Decides.{Decides-int_eq, Decides-eqb, Decides-
 use Rattle.species_affine.specs.declared.subscript.Subscript.{Subscript}
 use Rattle.species_arcs.specs.declared.places.Dir.{Dir}
 use Rattle.species_arcs.specs.declared.places.Dir.TheVariants as dir
+use Rattle.species_arcs.specs.declared.spans.Span.{Span}
 use Rattle.species_linear.specs.declared.forms.Term.{Term}
 use Rattle.species_references.specs.declared.nest.Reference.{Reference}
 use Rattle.species_merge.specs.Classes.{terms_of, terms_below, same_terms, same_front, same_fronts, same_direction, are_alike, Class, members, class_of, classes_behind, classes_of}
@@ -188,16 +189,16 @@ any_of_front f (q ∷ before) r h = go (f q) h (any_of_front f before r)
 -- two alike references are alike to the same ones
 any_alike : (top : ℕ) (r q : Reference) (before : List Reference) → are_alike top q r ≡ true → list_any (are_alike top r) before ≡ true → list_any (are_alike top q) before ≡ true
 any_alike top r q [] h k = absurd (cc k)
-any_alike top r q (s ∷ before) h k = go (are_alike top r s) refl k
+any_alike top r q (s ∷ before) h k = go (are_alike top r s) refl k (any_alike top r q before h)
   where
+    hold : (t : Bool) → list_any (are_alike top q) before ≡ true → (t || list_any (are_alike top q) before) ≡ true
+    hold true e = refl
+    hold false e = e
+
     go : (t : Bool) → are_alike top r s ≡ t → (t || list_any (are_alike top r) before) ≡ true
-        → (are_alike top q s || list_any (are_alike top q) before) ≡ true
-    go true e k = rw (alike_through top q r s h e) refl
-    go false e k = hold (are_alike top q s) (any_alike top r q before h k)
-      where
-        hold : (t : Bool) → list_any (are_alike top q) before ≡ true → (t || list_any (are_alike top q) before) ≡ true
-        hold true e = refl
-        hold false e = e
+        → (list_any (are_alike top r) before ≡ true → list_any (are_alike top q) before ≡ true) → (are_alike top q s || list_any (are_alike top q) before) ≡ true
+    go true e k rest = rw (alike_through top q r s h e) refl
+    go false e k rest = hold (are_alike top q s) (rest k)
 
 abbrev pub InClass : Reference → Class → Type 0
 InClass r c = Has (λ q. q ≡ r) (members c)
@@ -233,3 +234,40 @@ in_class_behind top before (q ∷ rs) r (inr h) = go (list_any (are_alike top q)
 
 pub in_class : (top : ℕ) (rs : List Reference) (r : Reference) → Has (λ q. q ≡ r) rs → Has (InClass r) (classes_of top rs)
 in_class top rs r h = elim (in_class_behind top [] rs r h) [ inl k ↦ absurd (cc k) | inr k ↦ k ]
+
+-- ---- equality of terms as code tells it
+
+pub same_term : (t u : Term) → Decides (nat_eq t.level u.level && int_eq t.coefficient u.coefficient) (t ≡ u)
+same_term t u =
+    Decides-like (nat_eq t.level u.level && int_eq t.coefficient u.coefficient) (λ h. ap (λ x. term x t.coefficient) h.0 ∙ ap (term u.level) h.1)
+    (λ e. (ap (λ x. x.level) e, ap (λ x. x.coefficient) e))
+    (Decides-and (nat_eq t.level u.level) (int_eq t.coefficient u.coefficient) (Decides-eqb t.level u.level) (Decides-int_eq t.coefficient u.coefficient))
+
+-- two tests that decide the same are equal
+pub same_tests : {P : Type 0} (a b : Bool) → Decides a P → Decides b P → a ≡ b
+same_tests true true h k = refl
+same_tests false false h k = refl
+same_tests true false h k = absurd (cc (k.1 (h.0 refl)))
+same_tests false true h k = absurd (cc (h.1 (k.0 refl)))
+
+-- lists of different lengths have no equal fronts
+pub fronts_apart : (top : ℕ) (ss qs : List Subscript) → length ss ≢ length qs → false ≡ same_fronts top ss qs
+fronts_apart top [] [] n = absurd (n refl)
+fronts_apart top [] (q ∷ qs) n = refl
+fronts_apart top (s ∷ ss) [] n = refl
+fronts_apart top (s ∷ ss) (q ∷ qs) n = go (same_front top s q) (fronts_apart top ss qs (λ e. n (omega (arith, e))))
+  where
+    go : (b : Bool) → false ≡ same_fronts top ss qs → false ≡ (b && same_fronts top ss qs)
+    go true e = e
+    go false e = refl
+
+abbrev span : ℤ → ℤ → ℕ → Span
+span low high stride = record { low = low; high = high; stride = stride }
+
+pub same_span : (x y : Span) → Decides (int_eq x.low y.low && (int_eq x.high y.high && nat_eq x.stride y.stride)) (x ≡ y)
+same_span x y =
+    Decides-like (int_eq x.low y.low && (int_eq x.high y.high && nat_eq x.stride y.stride))
+    (λ h. ap (λ z. span z x.high x.stride) h.0 ∙ (ap (λ z. span y.low z x.stride) h.1.0 ∙ ap (span y.low y.high) h.1.1))
+    (λ e. (ap (λ z. z.low) e, (ap (λ z. z.high) e, ap (λ z. z.stride) e)))
+    (Decides-and (int_eq x.low y.low) (int_eq x.high y.high && nat_eq x.stride y.stride) (Decides-int_eq x.low y.low)
+    (Decides-and (int_eq x.high y.high) (nat_eq x.stride y.stride) (Decides-int_eq x.high y.high) (Decides-eqb x.stride y.stride)))

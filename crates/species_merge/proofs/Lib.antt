@@ -4,6 +4,8 @@ pub mod HullSteps
 pub mod Covering
 pub mod TermLemmas
 pub mod ClassLemmas
+pub mod MemberLemmas
+pub mod SmallBoxes
 pub mod BandLemmas
 pub mod SetLaws
 pub mod ReachLaws

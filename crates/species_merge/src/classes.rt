@@ -165,42 +165,21 @@ impl<'a> Members<'a> {
     pub(crate) fn column(&self, alloc: Global, number: usize) -> Result<Vec<Span>, OutOfMemory>
         ensures { IfOk result (λ spans. spans.items ≡ column (members self.now) number) }
     {
-        let mut spans = Vec::new(alloc);
-        spans.push(box_in(self.first, number))?;
-        for reference in self.behind {
-            if are_alike(self.first, reference, self.top) {
-                spans.push(box_in(reference, number))?;
-            }
-        }
-        Ok(spans)
+        column_of(alloc, self.first, self.behind, self.top, number)
     }
 
     /// Whether all have the box of the first in a dimension.
     pub(crate) fn agree(&self, number: usize) -> bool
         ensures { IsTrue result ↔ All (λ r. box_in number r ≡ box_in number self.now.first) (members self.now) }
     {
-        let first = box_in(self.first, number);
-        for reference in self.behind {
-            if are_alike(self.first, reference, self.top) && box_in(reference, number) != first {
-                return false;
-            }
-        }
-        true
+        all_agree(self.first, self.behind, self.top, number)
     }
 
     /// Whether one of them has these boxes.
     pub(crate) fn some_has(&self, boxes: &[Span]) -> bool
         ensures { IsTrue result ↔ Any (λ r. r.boxes ≡ boxes.now) (members self.now) }
     {
-        if has_boxes(self.first, boxes) {
-            return true;
-        }
-        for reference in self.behind {
-            if are_alike(self.first, reference, self.top) && has_boxes(reference, boxes) {
-                return true;
-            }
-        }
-        false
+        some_has(self.first, self.behind, self.top, boxes)
     }
 
     /// Whether all are evaluated at affine places in each turn of the inner loops, and each of their inner
@@ -208,16 +187,73 @@ impl<'a> Members<'a> {
     pub(crate) fn are_regular(&self, top: usize) -> bool
         ensures { IsTrue result ↔ All (λ r. is_regular top r ≡ true) (members self.now) }
     {
-        if !is_regular(self.first, top) {
+        all_regular(self.first, self.behind, self.top, top)
+    }
+}
+
+fn column_of(
+    alloc: Global,
+    first: &Reference,
+    behind: &[Reference],
+    top: usize,
+    number: usize,
+) -> Result<Vec<Span>, OutOfMemory>
+    ensures { IfOk result (λ spans. spans.items ≡ column (members (class_of top first.now behind.now)) number) }
+{
+    let mut spans = Vec::new(alloc);
+    spans.push(box_in(first, number))?;
+    for reference in behind {
+        if are_alike(first, reference, top) {
+            spans.push(box_in(reference, number))?;
+        }
+    }
+    Ok(spans)
+}
+
+fn all_agree(first: &Reference, behind: &[Reference], top: usize, number: usize) -> bool
+    ensures { IsTrue result ↔ All (λ r. box_in number r ≡ box_in number first.now) (members (class_of top first.now behind.now)) }
+{
+    for reference in behind {
+        if are_alike(first, reference, top) && !same_box(reference, first, number) {
             return false;
         }
-        for reference in self.behind {
-            if are_alike(self.first, reference, self.top) && !is_regular(reference, top) {
-                return false;
-            }
-        }
-        true
     }
+    true
+}
+
+fn some_has(first: &Reference, behind: &[Reference], top: usize, boxes: &[Span]) -> bool
+    ensures { IsTrue result ↔ Any (λ r. r.boxes ≡ boxes.now) (members (class_of top first.now behind.now)) }
+{
+    if has_boxes(first, boxes) {
+        return true;
+    }
+    for reference in behind {
+        if are_alike(first, reference, top) && has_boxes(reference, boxes) {
+            return true;
+        }
+    }
+    false
+}
+
+fn all_regular(first: &Reference, behind: &[Reference], top: usize, inner: usize) -> bool
+    ensures { IsTrue result ↔ All (λ r. is_regular inner r ≡ true) (members (class_of top first.now behind.now)) }
+{
+    if !is_regular(first, inner) {
+        return false;
+    }
+    for reference in behind {
+        if are_alike(first, reference, top) && !is_regular(reference, inner) {
+            return false;
+        }
+    }
+    true
+}
+
+/// Whether two references have equal boxes in a dimension.
+fn same_box(a: &Reference, b: &Reference, number: usize) -> bool
+    ensures { IsTrue result ↔ box_in number a.now ≡ box_in number b.now }
+{
+    box_in(a, number) == box_in(b, number)
 }
 
 /// The box of a reference in a dimension.

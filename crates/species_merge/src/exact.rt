@@ -39,13 +39,20 @@ fn is_constant_loop(range: &LoopRange) -> bool
     range.start.is_some() && range.fixed
 }
 
+fn all_constant(path: &[LoopRange]) -> bool
+    ensures { result ≡ list_all is_constant_loop path.now }
+{
+    path.iter().all(is_constant_loop)
+}
+
 /// Whether the loops from level `top` on have constant bounds.
 fn are_constant(path: &[LoopRange], top: usize) -> bool
     ensures { result ≡ list_all is_constant_loop (drop top path.now) }
 {
-    match path.get(top..) {
-        Some(inner) => inner.iter().all(is_constant_loop),
-        None => true,
+    if top < path.len() {
+        all_constant(&path[top..])
+    } else {
+        true
     }
 }
 
