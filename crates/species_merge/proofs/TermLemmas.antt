@@ -1,10 +1,10 @@
 -- Rising terms, apart by level.
-use Rattle.std.proofs.Common.{◌≡◌, ◌∙◌, refl, ap, sym, subst, arith, ℕ, zero, suc, ◌+◌, ◌<◌, ◌≤◌, Bool, true, false, not, nat_eq, nat_lt, if◌then◌else◌, List, [], ◌∷◌, ◌++◌, length, take, drop, filter, slice_index_or, All, pos}
+use Rattle.std.proofs.Common.{◌≡◌, refl, ap, sym, subst, arith, ℕ, zero, suc, ◌+◌, ◌<◌, ◌≤◌, Bool, true, false, not, nat_lt, if◌then◌else◌, List, [], ◌∷◌, ◌++◌, length, take, drop, slice_index_or, All, pos}
 use Rattle.std.proofs.lemmas.Bool.Decides.{nat_tests}
 use Rattle.std.proofs.lemmas.List.{take_more}
 use Rattle.std.proofs.lemmas.List.Elements.{All-append}
 use Rattle.species_linear.specs.declared.forms.Term.{Term}
-use Rattle.species_linear.specs.Rising.{IsRisingFrom, IsRising}
+use Rattle.species_linear.specs.Rising.{IsRisingFrom}
 use Rattle.species_merge.proofs.Folding.{Each}
 use Rattle.species_merge.specs.Classes.{terms_below, terms_from}
 

@@ -1,4 +1,4 @@
--- When each place of an arc is touched.
+-- When the references of a class fill their hulls.
 use Rattle.std.specs.Prelude.{◌≡◌, ◌≢◌, ◌⊎◌, ℕ, ◌<◌, Bool, true, false, ◌&&◌, not, nat_eq, nat_le, List, [], ◌∷◌, length, drop, All}
 use Rattle.std.specs.List.{list_any, list_all, Any}
 use Rattle.species_affine.specs.declared.subscript.Subscript.{Subscript}

@@ -1,11 +1,11 @@
-//! When each place of an arc is touched.
+//! When the references of a class fill their hulls.
 
 ghost use Rattle.std.specs.Prelude.{◌≡◌, ◌≢◌, ◌↔◌, ◌⊎◌, ℕ, ◌<◌, nat_le, drop, length, IfOk, IsTrue, All};
 ghost use Rattle.std.specs.List.{list_all, list_any};
 ghost use Rattle.species_linear.specs.Rising.{IsRising};
 ghost use Rattle.species_merge.specs.Classes.{members, box_in, column};
 ghost use Rattle.species_merge.specs.Exact.{is_affine, inner_terms, names_level, are_apart, are_apart_inside, is_free, is_constant_loop, is_regular, FillsAlong, Fills, IsExact};
-ghost use Rattle.species_merge.specs.Sizes.{IsMergeable};
+ghost use Rattle.species_merge.specs.Sizes.{HasSmallBoxes};
 ghost use Rattle.species_merge.specs.Reaches.{IsSmallEnd};
 ghost use Rattle.species_merge.specs.Stretches.{IsSmallStride, IsSmallWhole};
 
@@ -137,7 +137,7 @@ fn fills_along(
     hulls: &[Span],
     number: usize,
 ) -> Result<bool, OutOfMemory>
-    requires refs { All IsMergeable (members class.now) }
+    requires refs { All HasSmallBoxes (members class.now) }
     requires hulls { All IsSmallWhole hulls.now }
     requires within { number < length hulls.now }
     ensures { IfOk result (λ fills. IsTrue fills ↔ FillsAlong class.now hulls.now number) }
@@ -150,7 +150,7 @@ fn fills_along(
 }
 
 fn fills(alloc: Global, class: &Members<'_>, hulls: &[Span]) -> Result<bool, OutOfMemory>
-    requires refs { All IsMergeable (members class.now) }
+    requires refs { All HasSmallBoxes (members class.now) }
     requires hulls { All IsSmallWhole hulls.now }
     ensures { IfOk result (λ fills. IsTrue fills ↔ Fills class.now hulls.now) }
 {
@@ -165,14 +165,16 @@ fn fills(alloc: Global, class: &Members<'_>, hulls: &[Span]) -> Result<bool, Out
     Ok(false)
 }
 
-/// Whether each place of the set with these hulls is touched.
-pub(crate) fn is_exact(
+/// Whether all of a class are evaluated at affine places in each turn of the loops from level `top` on,
+/// which have constant bounds, and their boxes fill these hulls: one has all the hulls as its boxes, or
+/// the boxes differ along one dimension alone and cover the hull there.
+pub fn is_exact(
     alloc: Global,
     class: &Members<'_>,
     top: usize,
     hulls: &[Span],
 ) -> Result<bool, OutOfMemory>
-    requires refs { All IsMergeable (members class.now) }
+    requires refs { All HasSmallBoxes (members class.now) }
     requires hulls { All IsSmallWhole hulls.now }
     ensures { IfOk result (λ exact. IsTrue exact ↔ IsExact top class.now hulls.now) }
 {

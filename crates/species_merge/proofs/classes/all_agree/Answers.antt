@@ -1,4 +1,4 @@
-use Rattle.std.proofs.Common.{◌≡◌, ◌∙◌, refl, sym, true, arith}
+use Rattle.std.proofs.Common.{◌≡◌, ◌∙◌, refl, sym, arith}
 use Rattle.species_merge.specs.Classes.{are_alike, box_in}
 use Rattle.species_merge.proofs.Covering.{clash, not_true}
 use Rattle.species_merge.proofs.MemberLemmas.{item_with, item_without, item_has, items_done}

@@ -1,4 +1,4 @@
-use Rattle.std.proofs.Common.{◌≡◌, ◌∷◌, ◌++◌, take, filter}
+use Rattle.std.proofs.Common.{◌≡◌, ◌∷◌, take, filter}
 use Rattle.species_merge.specs.Classes.{are_alike, column}
 use Rattle.species_merge.proofs.classes.column_of.Given as goal
 

@@ -1,4 +1,3 @@
-use Rattle.std.proofs.Common.{arith}
 use Rattle.species_merge.proofs.ClassLemmas.{fronts_apart}
 use Rattle.species_merge.proofs.classes.same_fronts.Goals as goal
 

@@ -18,10 +18,11 @@ pub returns : goal.returns
 returns c =
     let items : c.as_slice.result.now ≡ column (members c.args.class.now) c.args.number = search (rules, c.as_slice.ensures.value, c.in_ok-spans.ensures) in
     let own = slice_index_or c.args.hulls.now c.args.number zero_span in
-    let at : own ≡ box_at c.args.hulls.now c.args.number = any_default c.args.hulls.now c.args.number zero_span no_box c.requires.within in
-    ((λ t. record {
+    let at : own ≡ box_at c.args.hulls.now c.args.number = any_default c.args.hulls.now c.args.number zero_span no_box c.requires.within in (
+      (λ t. record {
         within = c.requires.within;
         others = c.others_agree.ensures.0 c.if-not-others_agree.false;
         covered = subst (λ x. Covers (column (members c.args.class.now) c.args.number) x) at (subst (λ xs. Covers xs own) items (c.covers.ensures.0 t));
       }),
-    (λ h. c.covers.ensures.1 (subst (λ xs. Covers xs own) (sym items) (subst (λ x. Covers (column (members c.args.class.now) c.args.number) x) (sym at) h.covered))))
+      (λ h. c.covers.ensures.1 (subst (λ xs. Covers xs own) (sym items) (subst (λ x. Covers (column (members c.args.class.now) c.args.number) x) (sym at) h.covered))),
+    )
