@@ -126,7 +126,7 @@ has_filter P test (x ∷ xs) (inr h) = go (test x) (has_filter P test xs h)
     go true rest = inr rest
     go false rest = rest
 
-each_filter : {X : Type 0} (P : X → Type 0) (test : X → Bool) (xs : List X) → Each P xs → Each P (filter test xs)
+pub each_filter : {X : Type 0} (P : X → Type 0) (test : X → Bool) (xs : List X) → Each P xs → Each P (filter test xs)
 each_filter P test [] h = tt
 each_filter P test (x ∷ xs) h = go (test x) (each_filter P test xs h.1)
   where

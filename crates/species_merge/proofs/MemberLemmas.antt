@@ -3,7 +3,8 @@ use Rattle.std.proofs.Common.{◌≡◌, ◌∙◌, refl, ap, sym, subst, arith,
 use Rattle.std.specs.List.{Any}
 use Rattle.std.proofs.lemmas.List.{take_more, take_all}
 use Rattle.std.proofs.lemmas.List.Elements.{filter-append, All-append}
-use Rattle.species_merge.proofs.Folding.{Each, Has, each_of, any_of}
+use Rattle.species_merge.proofs.ClassLemmas.{each_filter}
+use Rattle.species_merge.proofs.Folding.{Each, Has, all_of, each_of, any_of}
 
 -- what is kept of one more
 kept_more : {X : Type 0} (test : X → Bool) (first : X) (xs : List X) (i : ℕ) (d : X) → i < length xs
@@ -102,3 +103,7 @@ items_done P test first xs i l h = subst (λ ys. All P (first ∷ filter test ys
 
 pub all_not_any : {X : Type 0} (P : X → Type 0) (xs : List X) → All (λ x. P x → ⊥) xs → Any P xs → ⊥
 all_not_any P xs h (k, y, l, e, p) = h k y l (subst P (sym e) p)
+
+-- what holds of all references holds of all members
+pub all_members : {X : Type 0} (P : X → Type 0) (test : X → Bool) (first : X) (xs : List X) → P first → All P xs → All P (first ∷ filter test xs)
+all_members P test first xs p h = all_of P (first ∷ filter test xs) (p, each_filter P test xs (each_of P xs h))

@@ -11,3 +11,6 @@ pub use classes::{Members, are_alike, is_alike_one};
 pub use exact::is_exact;
 pub use hulls::hull;
 pub use stretches::covers;
+
+#[cfg(test)]
+mod tests;
