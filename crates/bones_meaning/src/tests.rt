@@ -109,7 +109,7 @@ fn unit(alloc: Global) -> Result<Unit, OutOfMemory>
 
 /// The action after so many of an iteration of the loop, whose reads got these answers.
 fn next(alloc: Global, answers: &[Value], done: u64) -> Result<Action, OutOfMemory>
-    requires within { done < length (example.doubling answers.now) }
+    requires { done < length (example.doubling answers.now) }
 {
     let unit = unit(alloc)?;
     let body = body(alloc)?;
@@ -118,20 +118,31 @@ fn next(alloc: Global, answers: &[Value], done: u64) -> Result<Action, OutOfMemo
     action_at(alloc, &unit, body.as_slice(), &frame, answers, done)
 }
 
+/// Its read is answered by 6.
+fn next_of_six(alloc: Global, done: u64) -> Result<Action, OutOfMemory>
+    requires { done < 3 }
+{
+    next(alloc, &[Value::Int(6)], done)
+}
+
+/// Its read has no answer.
+fn first(alloc: Global) -> Result<Action, OutOfMemory> {
+    next(alloc, &[], 0)
+}
+
 #[test]
 fn a_read_and_a_write(rt: HostRuntime) -> Result<(), Fail> {
     let alloc = rt.alloc();
-    let six = [Value::Int(6)];
     let read = Action::Read { array: 0, at: 1 };
     let write = Action::Write {
         array: 1,
         at: 1,
         value: Value::Int(12),
     };
-    assert_eq!(rt; next(alloc, &six, 0)?, read);
-    assert_eq!(rt; next(alloc, &six, 1)?, write);
-    assert_eq!(rt; next(alloc, &six, 2)?, Action::Done);
-    assert_eq!(rt; next(alloc, &[], 0)?, read);
+    assert_eq!(rt; next_of_six(alloc, 0)?, read);
+    assert_eq!(rt; next_of_six(alloc, 1)?, write);
+    assert_eq!(rt; next_of_six(alloc, 2)?, Action::Done);
+    assert_eq!(rt; first(alloc)?, read);
     Ok(())
 }
 
