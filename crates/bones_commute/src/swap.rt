@@ -4,7 +4,7 @@ ghost use Rattle.species_ast.specs.Accesses.{sums};
 ghost use Rattle.bones_meaning.specs.Acted.{acted, answer};
 ghost use Rattle.bones_commute.specs.Swaps.{CanSwap, AreOfOtherOrder};
 
-use bones_actions::apply;
+use bones_meaning::apply;
 use species_ast::{Action, Value};
 use species_meaning::Arrays;
 

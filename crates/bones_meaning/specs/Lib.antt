@@ -1,4 +1,10 @@
 pub mod Acted
+pub mod Answers
 pub mod Courses
+pub mod Doubling
 pub mod Gatherings
+pub mod Laws
+pub mod Places
 pub mod Plays
+pub mod Tapes
+pub mod Walked

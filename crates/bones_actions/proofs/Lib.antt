@@ -1,6 +1,0 @@
-mod ActionsExample
-mod Elements
-mod Law
-mod Loops
-mod NextLaws
-mod Steps

@@ -1,5 +1,0 @@
-pub mod Answers
-pub mod Laws
-pub mod Places
-pub mod Tapes
-pub mod Walked
