@@ -5,3 +5,4 @@ pub mod Meaning
 pub mod Written
 pub mod Law
 pub mod Gives
+pub mod Tables

@@ -2,15 +2,22 @@
 #![tactic(auto)]
 
 mod cursor;
+mod cutting;
 mod given;
 mod law;
+mod line;
+mod meaning;
 mod parts;
 mod raw;
 mod reading;
 mod refusal;
+mod sums;
+#[cfg(test)]
+mod tests;
 mod writing;
 
 pub use given::{GivenArc, GivenDim, Names, SpeciesLine};
 pub use law::law_notation;
+pub use line::read_line;
 pub use refusal::NotationRefusal;
 pub use writing::{write_arc, write_line};
