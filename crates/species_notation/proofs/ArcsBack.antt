@@ -22,7 +22,7 @@ use Rattle.species_notation.proofs.Combining.{nat_eq-same, same_bytes}
 use Rattle.species_notation.proofs.FormSums.{entry_of, signed_back}
 use Rattle.species_notation.proofs.FormsBack.{form_back}
 
-each_map : {A B C : Type 0} (P : A → Type 0) (f : A → B) (g : B → Option C) (h : A → C) → ((x : A) → P x → g (f x) ≡ Some (h x)) → (xs : List A) → Each P xs → each_some g (map f xs) ≡ Some (map h xs)
+pub each_map : {A B C : Type 0} (P : A → Type 0) (f : A → B) (g : B → Option C) (h : A → C) → ((x : A) → P x → g (f x) ≡ Some (h x)) → (xs : List A) → Each P xs → each_some g (map f xs) ≡ Some (map h xs)
 each_map P f g h k [] e = refl
 each_map P f g h k (x ∷ xs) e =
     ap (option_and_then (λ y. option_map (λ ys. y ∷ ys) (each_some g (map f xs)))) (k x e.0) ∙ ap (option_map (λ ys. h x ∷ ys)) (each_map P f g h k xs e.1)
@@ -125,7 +125,7 @@ module _ (names : Names) (arrays_apart : Apart names.arrays) (apart : Apart name
     exact = a.exact;
   }
 
-  arc_back : (right : Bool) (a : Arc) → ArcFine names right a → given_arc names right (written_arc names a) ≡ Some (arc_as_given a)
+  pub arc_back : (right : Bool) (a : Arc) → ArcFine names right a → given_arc names right (written_arc names a) ≡ Some (arc_as_given a)
   arc_back right a fine = go a.dims (word_of a) refl fine.some fine.dims fine.word fine.dir
     where
       finish : (w : Word) (d : ArcDim) (ds : List ArcDim) → Each (DimFine names.iters) (d ∷ ds) → dir_of right w ≡ a.dir

@@ -6,3 +6,4 @@ pub mod Written
 pub mod Law
 pub mod Gives
 pub mod Tables
+pub mod TableLines

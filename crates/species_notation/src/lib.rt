@@ -2,7 +2,6 @@
 #![tactic(auto)]
 
 mod cursor;
-mod cutting;
 mod given;
 mod law;
 mod line;
@@ -11,13 +10,14 @@ mod parts;
 mod raw;
 mod reading;
 mod refusal;
+mod scan;
 mod sums;
 #[cfg(test)]
 mod tests;
 mod writing;
 
 pub use given::{GivenArc, GivenDim, Names, SpeciesLine};
-pub use law::law_notation;
+pub use law::{law_notation, law_table_lines};
 pub use line::read_line;
 pub use refusal::NotationRefusal;
 pub use writing::{write_arc, write_line};

@@ -6,7 +6,7 @@ ghost use Rattle.species_notation.specs.declared.refusal.NotationRefusal.TheVari
 ghost use Rattle.species_notation.specs.Gives.{Finds};
 
 use crate::cursor::Cursor;
-use crate::cutting::parts_of;
+use crate::scan::parts_of;
 use crate::given::{Names, SpeciesLine};
 use crate::meaning::given_line;
 use crate::parts::Part;

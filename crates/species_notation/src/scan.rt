@@ -170,7 +170,7 @@ fn taken<'a>(text: &'a [u8]) -> Option<(usize, Option<Part<'a>>)>
 }
 
 fn put_part<'a>(parts: &mut Items<Part<'a>>, part: Option<Part<'a>>) -> Result<(), AllocError>
-    ensures { OnOk result (parts.new ≡ parts.old ++ with_part part []) }
+    ensures { OnOk result (parts.new ≡ parts.old ++ with_part part.entry []) }
 {
     match part {
         Some(part) => parts.push(part),
