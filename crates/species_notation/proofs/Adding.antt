@@ -1,9 +1,11 @@
 -- Sums in a table: a name looked up, a number added, and the names that are known.
-use Rattle.std.proofs.Common.{◌≡◌, ◌∙◌, ap, sym, refl, ℕ, zero, suc, ◌+◌, ◌<◌, ◌≤◌, List, [], ◌∷◌, ◌++◌, map, length, drop, get_or, Option, Some, None, Bool, true, false, cond, arith, drop-cons, ℤ, pos, ◌+ℤ◌}
+use Rattle.std.proofs.Common.{◌≡◌, ◌∙◌, ap, sym, subst, refl, to_z, of_z, ℕ, zero, suc, ◌+◌, ◌<◌, ◌≤◌, List, [], ◌∷◌, ◌++◌, map, length, drop, get_or, Option, Some, None, Bool, true, false, cond, arith, drop-cons, ℤ, pos, ◌+ℤ◌}
 use Rattle.std.specs.Prelude.{if◌then◌else◌, bytes_eq, ◌&&◌, option_and_then, slice_get, unwrap_or}
 use Rattle.std.specs.List.{list_all, list_any}
+use Rattle.std.specs.Int.{w128}
 use Rattle.std.specs.Int.RustNames.{unsigned_abs}
 use Rattle.std.proofs.lemmas.Bool.{leb-true}
+use Rattle.std.proofs.lemmas.Int.{to_z-of_z, fits_signed_from_abs}
 use Rattle.std.proofs.lemmas.Slice.Eq.{bytes_eq-Decides}
 use Rattle.indexmap.specs.IndexMap.{insert_entry}
 use Rattle.std.specs.Map.{lookup}
@@ -100,20 +102,16 @@ coefficient_small w s h = fits_small (coefficient_in w s.names) (coefficient_fit
 
 -- ---- a number added
 
+and_true : (b : Bool) → (b && true) ≡ b
+and_true true = refl
+and_true false = refl
+
 raised_fits : (w : List ℕ) (c : ℤ) (es : List Entry) → AllFit es → list_all (λ e. fits e.1) (raised w c es) ≡ fits (coefficient_in w es +ℤ c)
 raised_fits w c [] h = and_true (fits c) ∙ ap fits (sym (zero_plus c))
-  where
-    and_true : (b : Bool) → (b && true) ≡ b
-    and_true true = refl
-    and_true false = refl
 raised_fits w c (e ∷ es) h =
     let a = and_both (fits e.1) (list_all (λ e. fits e.1) es) h in
     go (bytes_eq e.0 w) a.0 a.1 (raised_fits w c es a.1)
   where
-    and_true : (b : Bool) → (b && true) ≡ b
-    and_true true = refl
-    and_true false = refl
-
     go : (b : Bool) → fits e.1 ≡ true → AllFit es → list_all (λ e. fits e.1) (raised w c es) ≡ fits (coefficient_in w es +ℤ c)
         → list_all (λ e. fits e.1) (if b then (e.0, e.1 +ℤ c) ∷ es else e ∷ raised w c es) ≡ fits ((if b then e.1 else coefficient_in w es) +ℤ c)
     go true x y next = ap (λ t. fits (e.1 +ℤ c) && t) y ∙ and_true (fits (e.1 +ℤ c))
@@ -220,6 +218,16 @@ known_turn q [] at p h = absurd (none_some p (sym h))
 known_turn q (e ∷ es) zero p h = ap (λ x. q (entry_seen x) && list_all q (map entry_seen es)) (sym (some_same p e h))
 known_turn q (e ∷ es) (suc at) p h = known_turn q es at p h
 
+pub known_next : (q : Entry → Bool) (es : Entries) (at : ℕ) (p : Bor (List ℕ) × ℤ) → Some p ≡ slice_get es at → q (entry_seen p) ≡ true
+    → list_all q (drop at (map entry_seen es)) ≡ list_all q (drop (at + 1) (map entry_seen es))
+known_next q es at p h k =
+    let next : suc at ≡ at + 1 = omega arith in
+    known_turn q es at p h ∙ ap (λ b. b && list_all q (drop (suc at) (map entry_seen es))) k ∙ ap (λ j. list_all q (drop j (map entry_seen es))) next
+
+pub known_not : (q : Entry → Bool) (es : Entries) (at : ℕ) (p : Bor (List ℕ) × ℤ) → Some p ≡ slice_get es at → q (entry_seen p) ≡ false
+    → list_all q (drop at (map entry_seen es)) ≡ false
+known_not q es at p h k = known_turn q es at p h ∙ ap (λ b. b && list_all q (drop (suc at) (map entry_seen es))) k
+
 pub known_end : (q : Entry → Bool) (es : Entries) (at : ℕ) → length es ≤ at → list_all q (drop at (map entry_seen es)) ≡ true
 known_end q [] zero le = refl
 known_end q [] (suc at) le = refl
@@ -234,3 +242,17 @@ item_turn xs i x lt h = drop-cons xs i x lt ∙ ap (λ y. y ∷ drop (suc i) xs)
 pub add_turn : (xs : List Summand) (i : ℕ) (x : Summand) (s : Sums) → i < length xs → x ≡ get_or xs i x
     → add_all (drop i xs) s ≡ option_and_then (add_all (drop (suc i) xs)) (limited (with_summand x s))
 add_turn xs i x s lt h = ap (λ l. add_all l s) (item_turn xs i x lt h)
+
+-- ---- the code's table
+
+-- a sum that was found is the coefficient, and fits the code's numbers
+pub sum_told : (w : List ℕ) (c z : ℤ) (t : Table) (s : Sums) → IsLimited (sums_seen c t) → sums_seen c t ≡ s → Some z ≡ found_in w t.entries
+    → (to_z w128 (of_z w128 z) ≡ coefficient_in w s.names) × (unsigned_abs (to_z w128 (of_z w128 z)) ≤ most)
+sum_told w c z t s limited same found =
+    let is : z ≡ coefficient_in w s.names = sum_found w t.entries z found ∙ ap (λ r. coefficient_in w r.names) same in
+    let small : unsigned_abs z ≤ most = subst (λ y. unsigned_abs y ≤ most) (sym is) (coefficient_small w s (subst IsLimited same limited)) in
+    let whole : to_z w128 (of_z w128 z) ≡ z = to_z-of_z w128 z (fits_signed_from_abs w128 z (omega (arith, small))) in
+    (whole ∙ is, subst (λ y. unsigned_abs y ≤ most) (sym whole) small)
+
+pub sum_untold : (w : List ℕ) (c : ℤ) (t : Table) (s : Sums) → sums_seen c t ≡ s → None ≡ found_in w t.entries → pos 0 ≡ coefficient_in w s.names
+sum_untold w c t s same missing = sum_missing w t.entries missing ∙ ap (λ r. coefficient_in w r.names) same

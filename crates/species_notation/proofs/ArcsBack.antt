@@ -99,7 +99,7 @@ module _ (iters : List (List ℕ)) (apart : Apart iters) where
 
 -- ---- the array by its name
 
-position_at : (w : List ℕ) (ws : List (List ℕ)) (k : ℕ) → k < length ws → slice_index_or ws k [] ≡ w → ((i : ℕ) → i < k → bytes_eq w (slice_index_or ws i []) ≡ false) → position (bytes_eq w) ws ≡ Some k
+pub position_at : (w : List ℕ) (ws : List (List ℕ)) (k : ℕ) → k < length ws → slice_index_or ws k [] ≡ w → ((i : ℕ) → i < k → bytes_eq w (slice_index_or ws i []) ≡ false) → position (bytes_eq w) ws ≡ Some k
 position_at w ws k lt e n =
     let le : k ≤ length ws = omega (arith, lt) in
     let place = position_or_len_is (bytes_eq w) ws k [] le n (λ l. ap (bytes_eq w) e ∙ same_bytes w) in

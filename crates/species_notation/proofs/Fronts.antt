@@ -96,6 +96,9 @@ number_long run t lt h = go (nat_le (digits_value 10 run) most && bytes_eq (deci
     go true e = longer (length run) (Some (part.Number (digits_value 10 run))) t lt e
     go false e = absurd (none_some t e)
 
+run_long : (b : ℕ) (bytes : List ℕ) → 0 < length (run_front b bytes)
+run_long b bytes = let some : 0 < suc (length (take (run_of is_word bytes) bytes)) = omega arith in some
+
 takes_some : (b : ℕ) (bytes : List ℕ) (t : Taken) → taken_at b bytes ≡ Some t → 0 < t.0
 unfolding taken_at
 takes_some b bytes t h = go (start_of b bytes) refl h
@@ -104,8 +107,8 @@ takes_some b bytes t h = go (start_of b bytes) refl h
     go Start.Gap e k =
         let some = above_zero (gap_front b bytes) (gap_starts (nat_lt 0 (gap_front b bytes)) (is_letter b) (is_digit b) (begins (codes "->") (b ∷ bytes)) (is_sign b) e) in
         longer (gap_front b bytes) None t some k
-    go Start.Letter e k = word_long (run_front b bytes) t (omega arith) k
-    go Start.Digit e k = number_long (run_front b bytes) t (omega arith) k
+    go Start.Letter e k = word_long (run_front b bytes) t (run_long b bytes) k
+    go Start.Digit e k = number_long (run_front b bytes) t (run_long b bytes) k
     go Start.Arrow e k = longer 2 (Some part.Arrow) t (omega arith) k
     go Start.Sign e k = longer 1 (Some (part.Sign b)) t (omega arith) k
     go Start.Wrong e k = absurd (none_some t k)
@@ -125,7 +128,8 @@ any_bound zero zero [] a c = refl
 any_bound zero (suc k) [] a c = refl
 any_bound (suc m) zero [] a c = refl
 any_bound (suc m) (suc k) [] a c = refl
-any_bound zero k (b ∷ bytes) a c = let x : ⊥ = omega (arith, a) in absurd x
+any_bound zero zero (b ∷ bytes) a c = refl
+any_bound zero (suc k) (b ∷ bytes) a c = let x : ⊥ = omega (arith, a) in absurd x
 any_bound (suc m) zero (b ∷ bytes) a c = let x : ⊥ = omega (arith, c) in absurd x
 any_bound (suc m) (suc k) (b ∷ bytes) a c =
     same_step m k b bytes (λ j lt. any_bound m k (drop j (b ∷ bytes)) (omega (arith, a, lt, length-drop j (b ∷ bytes))) (omega (arith, c, lt, length-drop j (b ∷ bytes)))) (taken_at b bytes) refl
@@ -137,9 +141,9 @@ unfolding parts_of
 cut_turn [] t h = absurd (none_some t h)
 cut_turn (b ∷ bytes) t h =
     let some = takes_some b bytes t h in
-    let rest = drop t.0 (b ∷ bytes) in
+    let short : length (drop t.0 (b ∷ bytes)) ≤ length bytes = omega (arith, some, length-drop t.0 (b ∷ bytes)) in
     ap (step_of (length bytes) (b ∷ bytes)) h
-    ∙ ap (option_map (with_part t.1)) (any_bound (length bytes) (length rest) rest (omega (arith, some, length-drop t.0 (b ∷ bytes))) (omega arith))
+    ∙ ap (option_map (with_part t.1)) (any_bound (length bytes) (length (drop t.0 (b ∷ bytes))) (drop t.0 (b ∷ bytes)) short (omega arith))
 
 cut_stuck : (bytes : List ℕ) → 0 < length bytes → taken_from bytes ≡ None → parts_of bytes ≡ None
 unfolding parts_of

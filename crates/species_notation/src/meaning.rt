@@ -154,7 +154,7 @@ fn single_places(alloc: Global, forms: &[RawForm<'_>]) -> Result<Items<Span>, No
     ensures { Finds result (each_some offset_of (map (λ f. None) forms.now)) }
 {
     let mut spans = Items::new(alloc);
-    for _ in forms {
+    for _number in 0..forms.len() {
         spans.push(Span {
             low: 0,
             high: 0,
@@ -250,11 +250,23 @@ fn dims_of(
     Ok(dims)
 }
 
+/// The place of the first of the names that is this one.
+fn place_of(name: &[u8], names: &[Name]) -> Option<usize>
+    ensures { result ≡ position (bytes_eq name.now) names.now }
+{
+    for number in 0..names.len() {
+        if name == names[number].as_slice() {
+            return Some(number);
+        }
+    }
+    None
+}
+
 /// The number of the array of this name, if there is one.
 fn array_number(arrays: &[Name], name: &[u8]) -> Result<Option<u32>, NotationRefusal>
     ensures { Finds result (Some (position (bytes_eq name.now) arrays.now)) }
 {
-    match arrays.iter().position(|array| name == array.as_slice()) {
+    match place_of(name, arrays) {
         Some(number) => match u32::try_from(number) {
             Ok(number) => Ok(Some(number)),
             Err(_) => Err(NotationRefusal::Memory),
