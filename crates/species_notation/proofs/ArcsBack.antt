@@ -22,7 +22,7 @@ use Rattle.species_notation.proofs.Combining.{nat_eq-same, same_bytes}
 use Rattle.species_notation.proofs.FormSums.{entry_of, signed_back}
 use Rattle.species_notation.proofs.FormsBack.{form_back}
 
-each_map : {A B C : Type 0} (P : A → Type 0) (f : A → B) (g : B → Option C) (h : A → C) → ((x : A) → P x → g (f x) ≡ Some (h x)) → (xs : List A) → Each P xs → each_some g (map f xs) ≡ Some (map h xs)
+pub each_map : {A B C : Type 0} (P : A → Type 0) (f : A → B) (g : B → Option C) (h : A → C) → ((x : A) → P x → g (f x) ≡ Some (h x)) → (xs : List A) → Each P xs → each_some g (map f xs) ≡ Some (map h xs)
 each_map P f g h k [] e = refl
 each_map P f g h k (x ∷ xs) e =
     ap (option_and_then (λ y. option_map (λ ys. y ∷ ys) (each_some g (map f xs)))) (k x e.0) ∙ ap (option_map (λ ys. h x ∷ ys)) (each_map P f g h k xs e.1)
@@ -99,7 +99,7 @@ module _ (iters : List (List ℕ)) (apart : Apart iters) where
 
 -- ---- the array by its name
 
-position_at : (w : List ℕ) (ws : List (List ℕ)) (k : ℕ) → k < length ws → slice_index_or ws k [] ≡ w → ((i : ℕ) → i < k → bytes_eq w (slice_index_or ws i []) ≡ false) → position (bytes_eq w) ws ≡ Some k
+pub position_at : (w : List ℕ) (ws : List (List ℕ)) (k : ℕ) → k < length ws → slice_index_or ws k [] ≡ w → ((i : ℕ) → i < k → bytes_eq w (slice_index_or ws i []) ≡ false) → position (bytes_eq w) ws ≡ Some k
 position_at w ws k lt e n =
     let le : k ≤ length ws = omega (arith, lt) in
     let place = position_or_len_is (bytes_eq w) ws k [] le n (λ l. ap (bytes_eq w) e ∙ same_bytes w) in
@@ -125,7 +125,7 @@ module _ (names : Names) (arrays_apart : Apart names.arrays) (apart : Apart name
     exact = a.exact;
   }
 
-  arc_back : (right : Bool) (a : Arc) → ArcFine names right a → given_arc names right (written_arc names a) ≡ Some (arc_as_given a)
+  pub arc_back : (right : Bool) (a : Arc) → ArcFine names right a → given_arc names right (written_arc names a) ≡ Some (arc_as_given a)
   arc_back right a fine = go a.dims (word_of a) refl fine.some fine.dims fine.word fine.dir
     where
       finish : (w : Word) (d : ArcDim) (ds : List ArcDim) → Each (DimFine names.iters) (d ∷ ds) → dir_of right w ≡ a.dir

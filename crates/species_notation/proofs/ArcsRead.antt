@@ -106,7 +106,7 @@ range_list (x ∷ xs) us f =
     ends_at (listed 44 range) (sign 93) (listed_parts 44 range_parts (x ∷ xs) ++ part.Sign 93 ∷ us) (x ∷ xs) (part.Sign 93 ∷ us) tt us
     (listed_at 44 range range_parts FormEnd (λ x ts. (refl, refl)) range_at (part.Sign 93 ∷ us) refl (refl, refl) x xs) refl
 
-ranges_at : (l : List RawRange) (us : List Part) → IsFilled l → ranges (part.Sign 91 ∷ (listed_parts 44 range_parts l ++ part.Sign 93 ∷ us)) ≡ Answer.read l us
+pub ranges_at : (l : List RawRange) (us : List Part) → IsFilled l → ranges (part.Sign 91 ∷ (listed_parts 44 range_parts l ++ part.Sign 93 ∷ us)) ≡ Answer.read l us
 unfolding ranges
 ranges_at l us f =
     let more : List Part = listed_parts 44 range_parts l ++ part.Sign 93 ∷ us in
@@ -161,7 +161,7 @@ module _ (a : RawArc) (us : List Part) where
   abbrev behind_offsets : List Part
   behind_offsets = part.Name (codes "at") ∷ at_forms
 
-  abbrev behind_word : List Part
+  abbrev pub behind_word : List Part
   behind_word = offsets_parts a.offsets ++ behind_offsets
 
   abbrev behind_ranges : List Part
@@ -189,10 +189,10 @@ module _ (a : RawArc) (us : List Part) where
   reads_at : Filled → from_at behind_offsets ≡ Answer.read (a.forms, a.exact) us
   reads_at f = skip_at (the_word (codes "at")) (both forms (word marks)) behind_offsets tt at_forms (a.forms, a.exact) us refl (reads_forms f)
 
-  abbrev from_word : Reader Part (ArcWord × (Option (List RawOffset) × (List RawForm × Bool)))
+  abbrev pub from_word : Reader Part (ArcWord × (Option (List RawOffset) × (List RawForm × Bool)))
   from_word = both (word arc_words) (both offsets from_at)
 
-  reads_word : Filled → from_word (part.Name (word_text a.word) ∷ behind_word) ≡ Answer.read (a.word, (a.offsets, (a.forms, a.exact))) us
+  pub reads_word : Filled → from_word (part.Name (word_text a.word) ∷ behind_word) ≡ Answer.read (a.word, (a.offsets, (a.forms, a.exact))) us
   reads_word f =
       both_at (word arc_words) (both offsets from_at) (part.Name (word_text a.word) ∷ behind_word) a.word behind_word (a.offsets, (a.forms, a.exact)) us (word_at a.word behind_word)
       (both_at offsets from_at behind_word a.offsets behind_offsets (a.forms, a.exact) us (offsets_at a.offsets behind_offsets f.offsets refl) (reads_at f))

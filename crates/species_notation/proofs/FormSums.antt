@@ -15,7 +15,7 @@ pub signed_back : (c : ℤ) → signed (is_negative c) (unsigned_abs c) ≡ c
 signed_back (pos n) = refl
 signed_back (negsuc n) = refl
 
-zero_plus : (c : ℤ) → pos 0 +ℤ c ≡ c
+pub zero_plus : (c : ℤ) → pos 0 +ℤ c ≡ c
 zero_plus c = omega (arith, ints)
 
 -- ---- entries of other names
@@ -55,7 +55,7 @@ fit_append (x ∷ es) e h k =
     let a = and_both (fits x.1) (list_all (λ e. fits e.1) es) h in
     ap (λ b. b && list_all (λ e. fits e.1) (es ++ e ∷ [])) a.0 ∙ fit_append es e a.1 k
 
-limited_fits : (c : ℤ) (es : List Entry) → fits c ≡ true → AllFit es → limited (record { constant = c; names = es }) ≡ Some (record { constant = c; names = es })
+pub limited_fits : (c : ℤ) (es : List Entry) → fits c ≡ true → AllFit es → limited (record { constant = c; names = es }) ≡ Some (record { constant = c; names = es })
 limited_fits c es h k = ap (λ b. if b && list_all (λ e. fits e.1) es then Some (record { constant = c; names = es }) else None) h ∙ ap (λ b. if b then Some (record { constant = c; names = es }) else None) k
 
 on_option : (o : Option Sums) (f g h : Sums → Option Sums) → ((t : Sums) → f t ≡ option_and_then h (g t)) → option_and_then f o ≡ option_and_then h (option_and_then g o)

@@ -15,3 +15,7 @@ pub mod Texts
 pub mod ArcTexts
 pub mod Turns
 pub mod Totals
+pub mod Fronts
+pub mod Adding
+pub mod GivenForms
+pub mod TableBack

@@ -31,7 +31,7 @@ each_append : {A : Type 0} (P : A → Type 0) (xs ys : List A) → Each P xs →
 each_append P [] ys h k = k
 each_append P (x ∷ xs) ys h k = (h.0, each_append P xs ys h.1 k)
 
-each_mapped : {A B : Type 0} (P : A → Type 0) (Q : B → Type 0) (f : A → B) → ((x : A) → P x → Q (f x)) → (xs : List A) → Each P xs → Each Q (map f xs)
+pub each_mapped : {A B : Type 0} (P : A → Type 0) (Q : B → Type 0) (f : A → B) → ((x : A) → P x → Q (f x)) → (xs : List A) → Each P xs → Each Q (map f xs)
 each_mapped P Q f k [] h = tt
 each_mapped P Q f k (x ∷ xs) h = (k x h.0, each_mapped P Q f k xs h.1)
 
@@ -88,7 +88,7 @@ module _ (iters : List (List ℕ)) (named : AllNames iters) where
 
 -- ---- lists that are not empty
 
-filled_map : {A B : Type 0} (f : A → B) (xs : List A) → 0 < length xs → IsFilled (map f xs)
+pub filled_map : {A B : Type 0} (f : A → B) (xs : List A) → 0 < length xs → IsFilled (map f xs)
 filled_map f [] lt = let x : ⊥ = omega (arith, lt) in absurd x
 filled_map f (x ∷ xs) lt = tt
 
@@ -99,7 +99,7 @@ offsets_filled word.Chunk ds lt = filled_map written_offset ds lt
 offsets_filled word.Full ds lt = filled_map written_offset ds lt
 offsets_filled word.Shared ds lt = filled_map written_offset ds lt
 
-arc_filled : (names : Names) (right : Bool) (a : Arc) → ArcFine names right a → IsArcFilled (written_arc names a)
+pub arc_filled : (names : Names) (right : Bool) (a : Arc) → ArcFine names right a → IsArcFilled (written_arc names a)
 arc_filled names right a f = record {
   ranges = filled_map (written_range names.iters) a.dims f.some;
   offsets = offsets_filled (word_of a) a.dims f.some;
@@ -109,7 +109,7 @@ arc_filled names right a f = record {
 -- ---- arcs
 
 module _ (names : Names) (arrays_named : AllNames names.arrays) (iters_named : AllNames names.iters) where
-  raw_fine : (right : Bool) (a : Arc) → ArcFine names right a → RawArcFine (written_arc names a)
+  pub raw_fine : (right : Bool) (a : Arc) → ArcFine names right a → RawArcFine (written_arc names a)
   raw_fine right a f = record {
     name = name_fine names.arrays a.array arrays_named f.array;
     ranges = each_mapped (DimFine names.iters) RangeFine (written_range names.iters) (range_fine names.iters iters_named) a.dims f.dims;

@@ -11,11 +11,11 @@ use Rattle.species_notation.specs.Parts.{Piece, Solid, Space, solids}
 use Rattle.species_notation.specs.Spelled.{behind, arc_front, arc_forms, arc_parts, mark_text, side_parts, line_parts}
 use Rattle.species_notation.specs.Written.{spaced, arc_pieces, next_arc, side_pieces, line_pieces}
 
-solids_map : (ps : List Part) → solids (map Solid ps) ≡ ps
+pub solids_map : (ps : List Part) → solids (map Solid ps) ≡ ps
 solids_map [] = refl
 solids_map (p ∷ ps) = ap (λ l. p ∷ l) (solids_map ps)
 
-solids_append : (ps qs : List Piece) → solids (ps ++ qs) ≡ solids ps ++ solids qs
+pub solids_append : (ps qs : List Piece) → solids (ps ++ qs) ≡ solids ps ++ solids qs
 solids_append [] qs = refl
 solids_append (Solid p ∷ ps) qs = ap (λ l. p ∷ l) (solids_append ps qs)
 solids_append (Space ∷ ps) qs = solids_append ps qs

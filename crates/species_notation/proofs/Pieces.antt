@@ -22,24 +22,24 @@ use Rattle.species_notation.proofs.Fine.{Each}
 
 -- ---- fine in front of what is apart, and in front of anything
 
-abbrev on : List Part → List Piece → List Piece
+abbrev pub on : List Part → List Piece → List Piece
 on ps qs = map Solid ps ++ qs
 
-abbrev Chunk : List Part → Type 0
+abbrev pub Chunk : List Part → Type 0
 Chunk ps = (qs : List Piece) → PiecesFine qs → begins_apart qs ≡ true → PiecesFine (on ps qs)
 
 abbrev Free : List Part → Type 0
 Free ps = (qs : List Piece) → PiecesFine qs → PiecesFine (on ps qs)
 
 -- it is apart from what stands before it, too
-abbrev Tail : List Part → Type 0
+abbrev pub Tail : List Part → Type 0
 Tail ps = (qs : List Piece) → PiecesFine qs → begins_apart qs ≡ true → PiecesFine (on ps qs) × (begins_apart (on ps qs) ≡ true)
 
 on_append : (a b : List Part) (qs : List Piece) → on (a ++ b) qs ≡ on a (on b qs)
 on_append [] b qs = refl
 on_append (p ∷ a) b qs = ap (λ l. Solid p ∷ l) (on_append a b qs)
 
-chunk_tail : (a b : List Part) → Chunk a → Tail b → Chunk (a ++ b)
+pub chunk_tail : (a b : List Part) → Chunk a → Tail b → Chunk (a ++ b)
 chunk_tail a b ca tb qs f e = let t = tb qs f e in subst PiecesFine (sym (on_append a b qs)) (ca (on b qs) t.0 t.1)
 
 tail_tail : (a b : List Part) → Tail a → Tail b → Tail (a ++ b)
@@ -51,25 +51,25 @@ tail_tail a b ta tb qs f e =
 free_chunk : (a b : List Part) → Free a → Chunk b → Chunk (a ++ b)
 free_chunk a b fa cb qs f e = subst PiecesFine (sym (on_append a b qs)) (fa (on b qs) (cb qs f e))
 
-sign_tail : (n : ℕ) (b : List Part) → IsSign n → Chunk b → Tail (part.Sign n ∷ b)
+pub sign_tail : (n : ℕ) (b : List Part) → IsSign n → Chunk b → Tail (part.Sign n ∷ b)
 sign_tail n b s c qs f e = (((s, λ h. cc), c qs f e), refl)
 
-sign_chunk : (n : ℕ) (b : List Part) → IsSign n → Chunk b → Chunk (part.Sign n ∷ b)
+pub sign_chunk : (n : ℕ) (b : List Part) → IsSign n → Chunk b → Chunk (part.Sign n ∷ b)
 sign_chunk n b s c qs f e = ((s, λ h. cc), c qs f e)
 
-no_parts : Chunk []
+pub no_parts : Chunk []
 no_parts qs f e = f
 
 word_chunk : (w : List ℕ) → is_name w ≡ true → Chunk (part.Name w ∷ [])
 word_chunk w h qs f e = ((h, λ k. e), f)
 
-number_chunk : (n : ℕ) → n ≤ most → Chunk (part.Number n ∷ [])
+pub number_chunk : (n : ℕ) → n ≤ most → Chunk (part.Number n ∷ [])
 number_chunk n h qs f e = ((h, λ k. e), f)
 
 number_then : (n : ℕ) (b : List Part) → n ≤ most → Tail b → Chunk (part.Number n ∷ b)
 number_then n b h t qs f e = let u = t qs f e in ((h, λ k. u.1), u.0)
 
-word_then : (w : List ℕ) (b : List Part) → is_name w ≡ true → Tail b → Chunk (part.Name w ∷ b)
+pub word_then : (w : List ℕ) (b : List Part) → is_name w ≡ true → Tail b → Chunk (part.Name w ∷ b)
 word_then w b h t qs f e = let u = t qs f e in ((h, λ k. u.1), u.0)
 
 -- ---- what can be written
@@ -136,7 +136,7 @@ form_chunk f h =
     (free_chunk (minus f.first.negative) (product_parts f.first.number f.first.name) (minus_free f.first.negative) (product_chunk f.first.number f.first.name h.0.0 h.0.1))
     (tails SummandFine next_parts next_tail f.more h.1)
 
-list_chunk : {A : Type 0} (n : ℕ) (P : A → Type 0) (parts : A → List Part) → IsSign n → ((x : A) → P x → Chunk (parts x)) → (l : List A) → Each P l → Chunk (listed_parts n parts l)
+pub list_chunk : {A : Type 0} (n : ℕ) (P : A → Type 0) (parts : A → List Part) → IsSign n → ((x : A) → P x → Chunk (parts x)) → (l : List A) → Each P l → Chunk (listed_parts n parts l)
 list_chunk n P parts s k [] h = no_parts
 list_chunk n P parts s k (x ∷ xs) h =
     chunk_tail (parts x) (flat_map (behind n parts) xs) (k x h.0) (tails P (behind n parts) (λ x p. sign_tail n (parts x) s (k x p)) xs h.1)
@@ -154,23 +154,23 @@ offset_chunk (Some s) h =
     chunk_tail (int_parts s.low) (part.Sign 58 ∷ (int_parts s.high ++ stride_parts s.stride)) (int_chunk s.low h.0)
     (sign_tail 58 (int_parts s.high ++ stride_parts s.stride) IsSign.colon (chunk_tail (int_parts s.high) (stride_parts s.stride) (int_chunk s.high h.1) (stride_tail s.stride h.2)))
 
-range_chunk : (r : RawRange) → RangeFine r → Chunk (range_parts r)
+pub range_chunk : (r : RawRange) → RangeFine r → Chunk (range_parts r)
 range_chunk r h = chunk_tail (form_parts r.low) (part.Sign 58 ∷ form_parts r.high) (form_chunk r.low h.0) (sign_tail 58 (form_parts r.high) IsSign.colon (form_chunk r.high h.1))
 
-offsets_tail : (o : Option (List RawOffset)) → OffsetsFine o → Tail (offsets_parts o)
+pub offsets_tail : (o : Option (List RawOffset)) → OffsetsFine o → Tail (offsets_parts o)
 offsets_tail None h = λ qs f e. (f, e)
 offsets_tail (Some l) h =
     sign_tail 40 (listed_parts 44 offset_parts l ++ part.Sign 41 ∷ []) IsSign.paren
     (chunk_tail (listed_parts 44 offset_parts l) (part.Sign 41 ∷ []) (list_chunk 44 OffsetFine offset_parts IsSign.comma offset_chunk l h) (sign_tail 41 [] IsSign.close no_parts))
 
-word_name : (w : Word) → is_name (word_text w) ≡ true
+pub word_name : (w : Word) → is_name (word_text w) ≡ true
 word_name word.Element = refl
 word_name word.Neighbourhood = refl
 word_name word.Chunk = refl
 word_name word.Full = refl
 word_name word.Shared = refl
 
-mark_name : (b : Bool) → is_name (mark_text b) ≡ true
+pub mark_name : (b : Bool) → is_name (mark_text b) ≡ true
 mark_name true = refl
 mark_name false = refl
 
@@ -187,7 +187,7 @@ front_chunk a h =
     inner : RawArc → List Part
     inner a = listed_parts 44 range_parts a.ranges ++ part.Sign 93 ∷ part.Sign 124 ∷ part.Name (word_text a.word) ∷ offsets_parts a.offsets
 
-at_chunk : (a : RawArc) → RawArcFine a → Chunk (arc_forms a)
+pub at_chunk : (a : RawArc) → RawArcFine a → Chunk (arc_forms a)
 at_chunk a h =
     sign_chunk 40 (listed_parts 44 form_parts a.forms ++ part.Sign 41 ∷ []) IsSign.paren
     (chunk_tail (listed_parts 44 form_parts a.forms) (part.Sign 41 ∷ []) (list_chunk 44 RawFormFine form_parts IsSign.comma form_chunk a.forms h.forms) (sign_tail 41 [] IsSign.close no_parts))

@@ -34,7 +34,7 @@ use Rattle.species_notation.proofs.FormSums.{and_both}
 use Rattle.species_notation.proofs.LinesBack.{sides_back}
 use Rattle.species_notation.proofs.ReasonsBack.{carried_back, local_back}
 
-each_of : {X : Type 0} (P : X → Type 0) (xs : List X) → All P xs → Each P xs
+pub each_of : {X : Type 0} (P : X → Type 0) (xs : List X) → All P xs → Each P xs
 each_of P [] h = tt
 each_of P (x ∷ xs) h = (h 0 x (omega arith), each_of P xs (λ k d l. h (suc k) d (omega (arith, l))))
 
@@ -51,7 +51,7 @@ differs v w n = go (bytes_eq v w) refl
     go true e = absurd (n ((bytes_eq-Decides v w).0 e))
     go false e = refl
 
-apart_of : (ws : List (List ℕ)) → AreDifferent ws → Apart ws
+pub apart_of : (ws : List (List ℕ)) → AreDifferent ws → Apart ws
 apart_of ws h i j l k = (differs (name_at ws j) (name_at ws i) (λ e. h i j l k (sym e)), differs (name_at ws i) (name_at ws j) (h i j l k))
 
 -- ---- forms and dimensions
@@ -117,7 +117,7 @@ word_fits false false true true ds h = tt
 word_fits false false true false ds h = tt
 
 -- what is no read stands on the right with the word of its direction
-dir_right : (d : Dir) (single driven overlapping : Bool) → not (is_read d) ≡ true → dir_of true (chosen (is_add d) single driven overlapping) ≡ d
+pub dir_right : (d : Dir) (single driven overlapping : Bool) → not (is_read d) ≡ true → dir_of true (chosen (is_add d) single driven overlapping) ≡ d
 dir_right dir.Read single driven overlapping h = cc
 dir_right dir.Add single driven overlapping h = refl
 dir_right dir.Write true driven overlapping h = refl
@@ -125,7 +125,7 @@ dir_right dir.Write false false overlapping h = refl
 dir_right dir.Write false true true h = refl
 dir_right dir.Write false true false h = refl
 
-dir_left : (d : Dir) → is_read d ≡ true → Path Dir dir.Read d
+pub dir_left : (d : Dir) → is_read d ≡ true → Path Dir dir.Read d
 dir_left dir.Read h = refl
 dir_left dir.Write h = cc
 dir_left dir.Add h = cc
@@ -133,7 +133,7 @@ dir_left dir.Add h = cc
 -- ---- arcs
 
 module _ (names : Names) where
-  fine : (right : Bool) (a : Arc) → IsReadableArc names a → dir_of right (word_of a) ≡ a.dir → ArcFine names right a
+  pub fine : (right : Bool) (a : Arc) → IsReadableArc names a → dir_of right (word_of a) ≡ a.dir → ArcFine names right a
   fine right a h dir = record {
     array = h.array;
     some = h.some;

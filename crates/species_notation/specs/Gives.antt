@@ -16,3 +16,9 @@ abbrev pub Finds : {X : Type 0} → Result X NotationRefusal → Option X → Ty
 Finds (Ok x) found = found ≡ Some x
 Finds (Err Syntax) found = found ≡ None
 Finds (Err Memory) found = Unit {0}
+
+-- What a function left behind is what a definition has, and Syntax where it has nothing, unless memory ran out.
+abbrev pub Leaves : {X : Type 0} → Result (Unit {0}) NotationRefusal → X → Option X → Type 0
+Leaves (Ok x) left found = found ≡ Some left
+Leaves (Err Syntax) left found = found ≡ None
+Leaves (Err Memory) left found = Unit {0}

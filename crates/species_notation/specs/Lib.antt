@@ -5,3 +5,5 @@ pub mod Meaning
 pub mod Written
 pub mod Law
 pub mod Gives
+pub mod Tables
+pub mod TableLines

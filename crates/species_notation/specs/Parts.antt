@@ -68,6 +68,15 @@ taken_in Wrong b bytes = None
 unfoldable pub taken_at : ℕ → List ℕ → Option Taken
 taken_at b bytes = taken_in (start_of b bytes) b bytes
 
+-- the same of a whole text
+abbrev pub gap_at : List ℕ → ℕ
+gap_at [] = 0
+gap_at (b ∷ bytes) = gap_front b bytes
+
+abbrev pub taken_from : List ℕ → Option Taken
+taken_from [] = None
+taken_from (b ∷ bytes) = taken_at b bytes
+
 abbrev pub with_part : Option Part → List Part → List Part
 with_part None ps = ps
 with_part (Some p) ps = p ∷ ps

@@ -5,7 +5,7 @@ ghost use Rattle.species_notation.specs.Readers.{is_the_sign, is_arrow, is_the_w
 ghost use Rattle.species_notation.specs.Gives.{Gives};
 
 use crate::parts::Part;
-use crate::raw::Spelling;
+use crate::raw::{Natural, Spelling};
 use crate::refusal::NotationRefusal;
 use species_arcs::Word;
 use std::marker::Model;
@@ -69,12 +69,12 @@ fn name_of<'a>(part: &Part<'a>) -> Option<Spelling<'a>>
     }
 }
 
-fn number_of(part: &Part<'_>) -> Option<u128>
+fn number_of(part: &Part<'_>) -> Option<Natural>
     ensures { result ≡ says_number part.now }
 {
     match part {
         Part::Name(_) => None,
-        Part::Number(number) => Some(*number),
+        Part::Number(number) => Some(number.copy()),
         Part::Sign(_) => None,
         Part::Arrow => None,
     }
@@ -278,7 +278,7 @@ impl<'t, 'a> Cursor<'t, 'a> {
     }
 
     /// The number that has to stand next.
-    pub(crate) fn number(&mut self) -> Result<u128, NotationRefusal>
+    pub(crate) fn number(&mut self) -> Result<Natural, NotationRefusal>
         ensures value { Gives result self.new (word number self.old) }
         ensures shorter { IfOk result (λ _. length self.new < length self.old) }
     {

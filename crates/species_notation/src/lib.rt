@@ -4,13 +4,20 @@
 mod cursor;
 mod given;
 mod law;
+mod line;
+mod meaning;
 mod parts;
 mod raw;
 mod reading;
 mod refusal;
+mod scan;
+mod sums;
+#[cfg(test)]
+mod tests;
 mod writing;
 
 pub use given::{GivenArc, GivenDim, Names, SpeciesLine};
-pub use law::law_notation;
+pub use law::{law_notation, law_table_lines};
+pub use line::read_line;
 pub use refusal::NotationRefusal;
 pub use writing::{write_arc, write_line};

@@ -40,11 +40,51 @@ impl<'a> Spelling<'a> {
     }
 }
 
+/// A number of the text, which is at most 2^70.
+#[derive(Drop)]
+pub(crate) struct Natural {
+    value: u128,
+}
+
+impl Model for Natural {
+    ghost use Rattle.std.specs.Prelude.{ℕ, ◌≤◌, ◌^◌};
+
+    ghost Value = { ℕ };
+
+    ghost view = { λ n. n.value };
+
+    ghost invariant = { λ n. n.value ≤ 2 ^ 70 };
+}
+
+impl Natural {
+    ghost use Rattle.std.specs.Prelude.{◌≡◌, ◌≤◌, ◌^◌};
+
+    pub(crate) fn new(value: u128) -> Natural
+        requires { value ≤ 2 ^ 70 }
+        ensures { result ≡ value }
+    {
+        Natural { value }
+    }
+
+    pub(crate) fn get(&self) -> u128
+        ensures value { result ≡ self.now }
+        ensures within { result ≤ 2 ^ 70 }
+    {
+        self.value
+    }
+
+    pub(crate) fn copy(&self) -> Natural
+        ensures { result ≡ self.now }
+    {
+        Natural { value: self.value }
+    }
+}
+
 /// A number, and the name that it is a coefficient of.
 #[derive(Drop)]
 pub(crate) struct Summand<'a> {
     pub(crate) negative: bool,
-    pub(crate) number: u128,
+    pub(crate) number: Natural,
     pub(crate) name: Option<Spelling<'a>>,
 }
 
@@ -56,18 +96,18 @@ pub(crate) struct RawForm<'a> {
 }
 
 /// A number with its sign.
-#[derive(Clone, Copy)]
+#[derive(Drop)]
 pub(crate) struct RawInt {
     pub(crate) negative: bool,
-    pub(crate) size: u128,
+    pub(crate) size: Natural,
 }
 
 /// The offsets of a dimension, with the stride where it is said.
-#[derive(Clone, Copy)]
+#[derive(Drop)]
 pub(crate) struct RawSpan {
     pub(crate) low: RawInt,
     pub(crate) high: RawInt,
-    pub(crate) stride: Option<u128>,
+    pub(crate) stride: Option<Natural>,
 }
 
 /// The two ends of a dimension's domain.
@@ -94,8 +134,8 @@ pub(crate) struct RawArc<'a> {
 pub(crate) enum RawLine<'a> {
     Carried {
         name: Spelling<'a>,
-        first: u128,
-        second: u128,
+        first: Natural,
+        second: Natural,
     },
     Local {
         name: Spelling<'a>,

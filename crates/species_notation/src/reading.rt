@@ -5,7 +5,7 @@ ghost use Rattle.species_notation.specs.Readers.{sign, name, number, listed, lea
 ghost use Rattle.species_notation.specs.Gives.{Gives};
 
 use crate::cursor::Cursor;
-use crate::raw::{RawArc, RawForm, RawInt, RawLine, RawRange, RawSpan, Spelling, Summand};
+use crate::raw::{Natural, RawArc, RawForm, RawInt, RawLine, RawRange, RawSpan, Spelling, Summand};
 use crate::refusal::NotationRefusal;
 use sqlite_items::Items;
 use std::alloc::Global;
@@ -37,13 +37,13 @@ fn coefficient_of<'a>(cursor: &mut Cursor<'_, 'a>) -> Result<Option<Spelling<'a>
 
 /// A number, and the name that it is a coefficient of.
 #[tactic(auto, unfolding(crate::specs::Readers::product))]
-fn product<'a>(cursor: &mut Cursor<'_, 'a>) -> Result<(u128, Option<Spelling<'a>>), NotationRefusal>
+fn product<'a>(cursor: &mut Cursor<'_, 'a>) -> Result<(Natural, Option<Spelling<'a>>), NotationRefusal>
     ensures value { Gives result cursor.new (product cursor.old) }
     ensures shorter { IfOk result (λ _. length cursor.new < length cursor.old) }
 {
     if !cursor.is_at_number() {
         let name = cursor.name()?;
-        return Ok((1, Some(name)));
+        return Ok((Natural::new(1), Some(name)));
     }
     let number = cursor.number()?;
     let name = coefficient_of(cursor)?;
@@ -130,7 +130,7 @@ fn int(cursor: &mut Cursor<'_, '_>) -> Result<RawInt, NotationRefusal>
 }
 
 /// The stride behind two offsets, if it is said.
-fn stride(cursor: &mut Cursor<'_, '_>) -> Result<Option<u128>, NotationRefusal>
+fn stride(cursor: &mut Cursor<'_, '_>) -> Result<Option<Natural>, NotationRefusal>
     ensures value { Gives result cursor.new (maybe (sign 58) (word number) cursor.old) }
     ensures within { IfOk result (λ _. length cursor.new ≤ length cursor.old) }
 {
@@ -398,7 +398,7 @@ fn sequential<'a>(cursor: &mut Cursor<'_, 'a>) -> Result<RawLine<'a>, NotationRe
 
 /// A line.
 #[tactic(auto, unfolding(crate::specs::Readers::line_reader))]
-fn line<'a>(alloc: Global, cursor: &mut Cursor<'_, 'a>) -> Result<RawLine<'a>, NotationRefusal>
+pub(crate) fn line<'a>(alloc: Global, cursor: &mut Cursor<'_, 'a>) -> Result<RawLine<'a>, NotationRefusal>
     ensures value { Gives result cursor.new (line_reader cursor.old) }
     ensures shorter { IfOk result (λ _. length cursor.new < length cursor.old) }
 {

@@ -1,0 +1,265 @@
+-- What each turn of the loops over forms, offsets, dimensions and arcs adds.
+use Rattle.std.proofs.Common.{◌≡◌, ◌∙◌, ap, sym, subst, refl, ℕ, zero, suc, ◌+◌, ◌<◌, ◌≤◌, List, [], ◌∷◌, ◌++◌, map, length, take, drop, get_or, Option, Some, None, Bool, true, false, All, arith, drop-cons, take-add, length-drop, append_assoc, append-nil, ℤ, pos}
+use Rattle.std.specs.Prelude.{if◌then◌else◌, bytes_eq, nat_eq, ◌&&◌, ◌||◌, not, option_map, option_and_then, slice_index_or, filter, nat_lt, position}
+use Rattle.std.specs.List.{list_all, list_any}
+use Rattle.std.specs.Int.RustNames.{unsigned_abs}
+use Rattle.std.proofs.lemmas.Slice.Eq.{bytes_eq-Decides}
+use Rattle.std.proofs.lemmas.List.Elements.{All-append}
+use Rattle.std.proofs.lemmas.List.Sums.{position_or_len_is}
+use Rattle.std.proofs.lemmas.Bool.{ltb-true, ltb-false}
+use Rattle.species_linear.specs.declared.forms.Term.{Term}
+use Rattle.species_arcs.specs.declared.spans.Span.{Span}
+use Rattle.species_notation.specs.declared.given.GivenDim.{GivenDim}
+use Rattle.species_notation.specs.Meaning.{Entry, Sums, coefficient_in, without, put_term, terms_from, each_some, dim_of, dims_of}
+use Rattle.species_notation.specs.Written.{name_at}
+use Rattle.species_notation.specs.Tables.{left_after}
+use Rattle.species_notation.proofs.ArcsBack.{position_at}
+use Rattle.species_notation.proofs.Adding.{bytes_sym, item_turn}
+
+-- ---- of equal names the first is meant
+
+same_name : (v w : List ℕ) → bytes_eq v w ≡ true → v ≡ w
+same_name v w h = (bytes_eq-Decides v w).0 h
+
+false_true : false ≡ true → ⊥
+false_true h = cc
+
+none_there : (b : Bool) → pos 0 ≡ (if b then pos 0 else pos 0)
+none_there true = refl
+none_there false = refl
+
+coefficient_if : (w : List ℕ) (e : Entry) (es : List Entry) (a : Bool)
+    → coefficient_in w (if not a then e ∷ es else es) ≡ (if not a then (if bytes_eq e.0 w then e.1 else coefficient_in w es) else coefficient_in w es)
+coefficient_if w e es true = refl
+coefficient_if w e es false = refl
+
+-- whether the first of three names is the second, the first the third, and the second the third
+chosen_one : (a b c : Bool) (x y z : ℤ) → (a ≡ true → b ≡ true → c ≡ true) → (b ≡ true → c ≡ true → a ≡ true) → y ≡ (if c then pos 0 else z)
+    → (if not a then (if b then x else y) else y) ≡ (if c then pos 0 else (if b then x else z))
+chosen_one true true true x y z k j n = n
+chosen_one true false true x y z k j n = n
+chosen_one true true false x y z k j n = absurd (false_true (k refl refl))
+chosen_one true false false x y z k j n = n
+chosen_one false true true x y z k j n = absurd (false_true (j refl refl))
+chosen_one false true false x y z k j n = refl
+chosen_one false false true x y z k j n = n
+chosen_one false false false x y z k j n = n
+
+without_one : (w v : List ℕ) (es : List Entry) → coefficient_in w (without v es) ≡ (if bytes_eq v w then pos 0 else coefficient_in w es)
+without_one w v [] = none_there (bytes_eq v w)
+without_one w v (e ∷ es) =
+    coefficient_if w e (without v es) (bytes_eq e.0 v)
+    ∙ chosen_one (bytes_eq e.0 v) (bytes_eq e.0 w) (bytes_eq v w) e.1 (coefficient_in w (without v es)) (coefficient_in w es)
+    (λ x y. (bytes_eq-Decides v w).1 (sym (same_name e.0 v x) ∙ same_name e.0 w y))
+    (λ y z. (bytes_eq-Decides e.0 v).1 (same_name e.0 w y ∙ sym (same_name v w z)))
+    (without_one w v es)
+
+-- the coefficient of a name behind others
+pub first_only : (w : List ℕ) (seen : List (List ℕ)) (es : List Entry)
+    → coefficient_in w (left_after seen es) ≡ (if list_any (bytes_eq w) seen then pos 0 else coefficient_in w es)
+first_only w [] es = refl
+first_only w (v ∷ vs) es = first_only w vs (without v es) ∙ ap (λ c. if list_any (bytes_eq w) vs then pos 0 else c) (without_one w v es) ∙ go (list_any (bytes_eq w) vs) (bytes_eq v w) (bytes_eq w v) (bytes_sym v w)
+  where
+    go : (a b c : Bool) → b ≡ c → (if a then pos 0 else (if b then pos 0 else coefficient_in w es)) ≡ (if c || a then pos 0 else coefficient_in w es)
+    go true true true h = refl
+    go true true false h = cc
+    go true false true h = cc
+    go true false false h = refl
+    go false true true h = refl
+    go false true false h = cc
+    go false false true h = cc
+    go false false false h = refl
+
+pub left_one : (seen : List (List ℕ)) (w : List ℕ) (es : List Entry) → left_after (seen ++ w ∷ []) es ≡ without w (left_after seen es)
+left_one [] w es = refl
+left_one (v ∷ vs) w es = left_one vs w (without v es)
+
+-- ---- the terms of a form
+
+pub put_front : (k : ℕ) (c : ℤ) (ts : List Term) → put_term k c ts ≡ put_term k c [] ++ ts
+put_front k c ts = go (nat_eq (unsigned_abs c) 0)
+  where
+    go : (b : Bool) → (if b then ts else record { level = k; coefficient = c } ∷ ts) ≡ (if b then [] else record { level = k; coefficient = c } ∷ []) ++ ts
+    go true = refl
+    go false = refl
+
+name_here : (iters : List (List ℕ)) (i : ℕ) → i < length iters → drop i iters ≡ name_at iters i ∷ drop (suc i) iters
+name_here iters i lt = drop-cons iters i [] lt
+
+taken_next : (iters : List (List ℕ)) (i : ℕ) → i < length iters → take (suc i) iters ≡ take i iters ++ name_at iters i ∷ []
+taken_next [] i lt = let x : ⊥ = omega (arith, lt) in absurd x
+taken_next (w ∷ ws) zero lt = refl
+taken_next (w ∷ ws) (suc i) lt = ap (λ l. w ∷ l) (taken_next ws i (omega (arith, lt)))
+
+-- a level more
+pub terms_turn : (iters : List (List ℕ)) (i : ℕ) (es : List Entry) (all terms new : List Term) → i < length iters
+    → all ≡ terms ++ terms_from i (drop i iters) (left_after (take i iters) es)
+    → new ≡ terms ++ put_term i (coefficient_in (name_at iters i) (left_after (take i iters) es)) []
+    → all ≡ new ++ terms_from (suc i) (drop (suc i) iters) (left_after (take (suc i) iters) es)
+terms_turn iters i es all terms new lt e is =
+    let w = name_at iters i in
+    let left = left_after (take i iters) es in
+    let rest = terms_from (suc i) (drop (suc i) iters) (without w left) in
+    e ∙ ap (λ l. terms ++ terms_from i l left) (name_here iters i lt)
+    ∙ ap (λ l. terms ++ l) (put_front i (coefficient_in w left) rest)
+    ∙ sym (append_assoc terms (put_term i (coefficient_in w left) []) rest)
+    ∙ ap (λ l. l ++ rest) (sym is)
+    ∙ ap (λ l. new ++ terms_from (suc i) (drop (suc i) iters) l) (sym (ap (λ l. left_after l es) (taken_next iters i lt) ∙ left_one (take i iters) w es))
+
+pub terms_end : (iters : List (List ℕ)) (i : ℕ) (es : List Entry) (all terms : List Term) → length iters ≤ i
+    → all ≡ terms ++ terms_from i (drop i iters) (left_after (take i iters) es) → all ≡ terms
+terms_end iters i es all terms le e = e ∙ go (drop i iters) (omega (arith, le, length-drop i iters))
+  where
+    go : (l : List (List ℕ)) → length l ≡ 0 → terms ++ terms_from i l (left_after (take i iters) es) ≡ terms
+    go [] h = append-nil terms
+    go (w ∷ l) h = let x : ⊥ = omega (arith, h) in absurd x
+
+-- the same, with the next level by its sum
+pub terms_next : (iters : List (List ℕ)) (i : ℕ) (es : List Entry) (all terms new : List Term) → i < length iters
+    → all ≡ terms ++ terms_from i (drop i iters) (left_after (take i iters) es)
+    → new ≡ terms ++ put_term i (coefficient_in (name_at iters i) (left_after (take i iters) es)) []
+    → all ≡ new ++ terms_from (i + 1) (drop (i + 1) iters) (left_after (take (i + 1) iters) es)
+terms_next iters i es all terms new lt e is =
+    let next : suc i ≡ i + 1 = omega arith in
+    subst (λ j. all ≡ new ++ terms_from j (drop j iters) (left_after (take j iters) es)) next (terms_turn iters i es all terms new lt e is)
+
+term_below : (i : ℕ) (c : ℤ) → All (λ (t : Term). t.level < i + 1) (put_term i c [])
+term_below i c = go (nat_eq (unsigned_abs c) 0)
+  where
+    go : (b : Bool) → All (λ (t : Term). t.level < i + 1) (if b then [] else record { level = i; coefficient = c } ∷ [])
+    go true k d lt = let x : ⊥ = omega (arith, lt) in absurd x
+    go false zero d lt = omega arith
+    go false (suc k) d lt = let x : ⊥ = omega (arith, lt) in absurd x
+
+-- the levels of the terms so far are below the next one
+pub below_next : (terms new : List Term) (i : ℕ) (c : ℤ) → All (λ (t : Term). t.level < i) terms → new ≡ terms ++ put_term i c [] → All (λ (t : Term). t.level < i + 1) new
+below_next terms new i c h e =
+    subst (All (λ (t : Term). t.level < i + 1)) (sym e)
+    (All-append (λ (t : Term). t.level < i + 1) terms (put_term i c []) (λ k d lt. omega (arith, h k d lt)) (term_below i c))
+
+-- ---- an answer for each
+
+abbrev pub behind_all : {B : Type 0} → List B → Option (List B) → Option (List B)
+behind_all ys o = option_map (λ zs. ys ++ zs) o
+
+nothing_before : {B : Type 0} (o : Option (List B)) → o ≡ behind_all [] o
+nothing_before None = refl
+nothing_before (Some ys) = refl
+
+pub each_begins : {A B : Type 0} (f : A → Option B) (xs : List A) → each_some f xs ≡ behind_all [] (each_some f (drop 0 xs))
+each_begins f xs = nothing_before (each_some f xs)
+
+one_more : {B : Type 0} (ys : List B) (y : B) (o : Option (List B)) → behind_all ys (option_map (λ zs. y ∷ zs) o) ≡ behind_all (ys ++ y ∷ []) o
+one_more ys y None = refl
+one_more ys y (Some zs) = ap Some (sym (append_assoc ys (y ∷ []) zs))
+
+pub each_turn : {A B : Type 0} (f : A → Option B) (xs : List A) (i : ℕ) (x : A) (y : B) (all : Option (List B)) (ys new : List B)
+    → i < length xs → x ≡ get_or xs i x → all ≡ behind_all ys (each_some f (drop i xs)) → f x ≡ Some y → new ≡ ys ++ y ∷ []
+    → all ≡ behind_all new (each_some f (drop (suc i) xs))
+each_turn f xs i x y all ys new lt is e h n =
+    e ∙ ap (λ l. behind_all ys (each_some f l)) (item_turn xs i x lt is)
+    ∙ ap (λ o. behind_all ys (option_and_then (λ y. option_map (λ zs. y ∷ zs) (each_some f (drop (suc i) xs))) o)) h
+    ∙ one_more ys y (each_some f (drop (suc i) xs))
+    ∙ ap (λ l. behind_all l (each_some f (drop (suc i) xs))) (sym n)
+
+pub each_stuck : {A B : Type 0} (f : A → Option B) (xs : List A) (i : ℕ) (x : A) (all : Option (List B)) (ys : List B)
+    → i < length xs → x ≡ get_or xs i x → all ≡ behind_all ys (each_some f (drop i xs)) → f x ≡ None → all ≡ None
+each_stuck f xs i x all ys lt is e h =
+    e ∙ ap (λ l. behind_all ys (each_some f l)) (item_turn xs i x lt is)
+    ∙ ap (λ o. behind_all ys (option_and_then (λ y. option_map (λ zs. y ∷ zs) (each_some f (drop (suc i) xs))) o)) h
+
+none_left : {A B : Type 0} (f : A → Option B) (ys : List B) (l : List A) → length l ≡ 0 → behind_all ys (each_some f l) ≡ Some ys
+none_left f ys [] h = ap Some (append-nil ys)
+none_left f ys (x ∷ l) h = let x : ⊥ = omega (arith, h) in absurd x
+
+pub each_ends : {A B : Type 0} (f : A → Option B) (xs : List A) (i : ℕ) (all : Option (List B)) (ys : List B)
+    → length xs ≤ i → all ≡ behind_all ys (each_some f (drop i xs)) → all ≡ Some ys
+each_ends f xs i all ys le e = e ∙ none_left f ys (drop i xs) (omega (arith, le, length-drop i xs))
+
+-- ---- dimensions
+
+pub dims_begin : (iters : List (List ℕ)) (ss : List Sums) (os : List Span) → dims_of iters ss os ≡ behind_all [] (dims_of iters (drop 0 ss) (drop 0 os))
+dims_begin iters ss os = nothing_before (dims_of iters ss os)
+
+pub dims_turn : (iters : List (List ℕ)) (ss : List Sums) (os : List Span) (i : ℕ) (s : Sums) (o : Span) (all : Option (List GivenDim)) (ds new : List GivenDim)
+    → i < length ss → i < length os → s ≡ get_or ss i s → o ≡ get_or os i o → all ≡ behind_all ds (dims_of iters (drop i ss) (drop i os))
+    → new ≡ ds ++ dim_of iters s o ∷ [] → all ≡ behind_all new (dims_of iters (drop (suc i) ss) (drop (suc i) os))
+dims_turn iters ss os i s o all ds new lt more is also e n =
+    e ∙ ap (λ l. behind_all ds (dims_of iters l (drop i os))) (item_turn ss i s lt is)
+    ∙ ap (λ l. behind_all ds (dims_of iters (s ∷ drop (suc i) ss) l)) (item_turn os i o more also)
+    ∙ one_more ds (dim_of iters s o) (dims_of iters (drop (suc i) ss) (drop (suc i) os))
+    ∙ ap (λ l. behind_all l (dims_of iters (drop (suc i) ss) (drop (suc i) os))) (sym n)
+
+pub dims_next : (iters : List (List ℕ)) (ss : List Sums) (os : List Span) (i : ℕ) (s : Sums) (o : Span) (all : Option (List GivenDim)) (ds new : List GivenDim)
+    → i < length ss → i < length os → s ≡ get_or ss i s → o ≡ get_or os i o → all ≡ behind_all ds (dims_of iters (drop i ss) (drop i os))
+    → new ≡ ds ++ dim_of iters s o ∷ [] → all ≡ behind_all new (dims_of iters (drop (i + 1) ss) (drop (i + 1) os))
+dims_next iters ss os i s o all ds new lt more is also e n =
+    let next : suc i ≡ i + 1 = omega arith in
+    subst (λ j. all ≡ behind_all new (dims_of iters (drop j ss) (drop j os))) next (dims_turn iters ss os i s o all ds new lt more is also e n)
+
+pub dims_end : (iters : List (List ℕ)) (ss : List Sums) (os : List Span) (i : ℕ) (all : Option (List GivenDim)) (ds : List GivenDim)
+    → length ss ≤ i → length os ≤ i → all ≡ behind_all ds (dims_of iters (drop i ss) (drop i os)) → all ≡ Some ds
+dims_end iters ss os i all ds le also e = e ∙ go (drop i ss) (drop i os) (omega (arith, le, length-drop i ss)) (omega (arith, also, length-drop i os))
+  where
+    go : (l : List Sums) (k : List Span) → length l ≡ 0 → length k ≡ 0 → behind_all ds (dims_of iters l k) ≡ Some ds
+    go [] [] h j = ap Some (append-nil ds)
+    go [] (o ∷ k) h j = let x : ⊥ = omega (arith, j) in absurd x
+    go (s ∷ l) k h j = let x : ⊥ = omega (arith, h) in absurd x
+
+pub dims_apart : (iters : List (List ℕ)) (ss : List Sums) (os : List Span) → (length ss ≡ length os → ⊥) → dims_of iters ss os ≡ None
+dims_apart iters [] [] h = absurd (h refl)
+dims_apart iters [] (o ∷ os) h = refl
+dims_apart iters (s ∷ ss) [] h = refl
+dims_apart iters (s ∷ ss) (o ∷ os) h = ap (option_map (λ ds. dim_of iters s o ∷ ds)) (dims_apart iters ss os (λ e. h (ap suc e)))
+
+-- ---- one place in each dimension
+
+abbrev pub no_offsets : (A B : Type 0) → List A → List (Option B)
+no_offsets A B xs = map (λ x. None) xs
+
+no_offset_here : (A B : Type 0) (xs : List A) (i : ℕ) → i < length xs → no_offsets A B (drop i xs) ≡ None ∷ no_offsets A B (drop (suc i) xs)
+no_offset_here A B [] i lt = let x : ⊥ = omega (arith, lt) in absurd x
+no_offset_here A B (x ∷ xs) zero lt = refl
+no_offset_here A B (x ∷ xs) (suc i) lt = no_offset_here A B xs i (omega (arith, lt))
+
+pub singles_turn : (A B : Type 0) {C : Type 0} (f : Option B → Option C) (xs : List A) (i : ℕ) (y : C) (all : Option (List C)) (ys new : List C)
+    → i < length xs → all ≡ behind_all ys (each_some f (no_offsets A B (drop i xs))) → f None ≡ Some y → new ≡ ys ++ y ∷ []
+    → all ≡ behind_all new (each_some f (no_offsets A B (drop (i + 1) xs)))
+singles_turn A B f xs i y all ys new lt e h n =
+    let next : suc i ≡ i + 1 = omega arith in
+    e ∙ ap (λ l. behind_all ys (each_some f l)) (no_offset_here A B xs i lt)
+    ∙ ap (λ o. behind_all ys (option_and_then (λ y. option_map (λ zs. y ∷ zs) (each_some f (no_offsets A B (drop (suc i) xs)))) o)) h
+    ∙ one_more ys y (each_some f (no_offsets A B (drop (suc i) xs)))
+    ∙ ap (λ l. behind_all l (each_some f (no_offsets A B (drop (suc i) xs)))) (sym n)
+    ∙ ap (λ j. behind_all new (each_some f (no_offsets A B (drop j xs)))) next
+
+singles_left : (A B : Type 0) {C : Type 0} (f : Option B → Option C) (ys : List C) (l : List A) → length l ≡ 0 → behind_all ys (each_some f (no_offsets A B l)) ≡ Some ys
+singles_left A B f ys [] h = ap Some (append-nil ys)
+singles_left A B f ys (x ∷ l) h = let x : ⊥ = omega (arith, h) in absurd x
+
+pub singles_end : (A B : Type 0) {C : Type 0} (f : Option B → Option C) (xs : List A) (i : ℕ) (all : Option (List C)) (ys : List C)
+    → length xs ≤ i → all ≡ behind_all ys (each_some f (no_offsets A B (drop i xs))) → all ≡ Some ys
+singles_end A B f xs i all ys le e = e ∙ singles_left A B f ys (drop i xs) (omega (arith, le, length-drop i xs))
+
+-- ---- the first place of a name
+
+pub place_found : (w : List ℕ) (ws : List (List ℕ)) (k : ℕ) → k < length ws → ((i : ℕ) → i < k → bytes_eq w (name_at ws i) ≡ false)
+    → bytes_eq w (name_at ws k) ≡ true → position (bytes_eq w) ws ≡ Some k
+place_found w ws k lt n h = position_at w ws k lt (sym (same_name w (name_at ws k) h)) n
+
+pub place_missing : (w : List ℕ) (ws : List (List ℕ)) (k : ℕ) → length ws ≤ k → ((i : ℕ) → i < k → bytes_eq w (name_at ws i) ≡ false)
+    → position (bytes_eq w) ws ≡ None
+place_missing w ws k le n =
+    let place = position_or_len_is (bytes_eq w) ws (length ws) [] (omega arith) (λ i l. n i (omega (arith, l, le))) (λ l. absurd (omega (arith, l))) in
+    ap (λ i. if nat_lt i (length ws) then Some i else None) place ∙ ap (λ b. if b then Some (length ws) else None) (never_below (length ws))
+  where
+    never_below : (m : ℕ) → nat_lt m m ≡ false
+    never_below m = grind arith
+
+pub place_next : (w : List ℕ) (ws : List (List ℕ)) (k : ℕ) → ((i : ℕ) → i < k → bytes_eq w (name_at ws i) ≡ false)
+    → bytes_eq w (name_at ws k) ≡ false → (i : ℕ) → i < k + 1 → bytes_eq w (name_at ws i) ≡ false
+place_next w ws k n h i lt = go (nat_lt i k) refl
+  where
+    go : (b : Bool) → nat_lt i k ≡ b → bytes_eq w (name_at ws i) ≡ false
+    go true e = n i (ltb-true i k e)
+    go false e = let same : k ≡ i = omega (arith, lt, ltb-false i k e) in subst (λ j. bytes_eq w (name_at ws j) ≡ false) same h
