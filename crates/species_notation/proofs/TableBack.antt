@@ -198,15 +198,15 @@ domain_read es ss a f =
 table_read : (n : ℕ) (d : Dir) (es ss : List ℕ) (a : RawArc) → d ≢ dir.Add → AreFilled es ss a
     → table_reader (table_parts n d es ss a) ≡ Answer.read (raw_line_of n d es ss a) []
 unfolding table_reader
-table_read n d es ss a no f =
+table_read n d es ss a differs f =
     let from_name : List Part = arc_domain a ++ sized_parts es ss a in
     let said : List ℕ × (List RawRange × (List ℕ × (List ℕ × ArcTail))) = (a.name, (a.ranges, (es, (ss, tail_of a)))) in
     mapped_at raw_table_of (both (word number) (both (word dirs) (both (word name) (both ranges sized_tail)))) (table_parts n d es ss a) (n, (d, said)) []
     (both_at (word number) (both (word dirs) (both (word name) (both ranges sized_tail))) (table_parts n d es ss a) n (part.Name (dir_text d) ∷ from_name) (d, said) [] refl
-    (both_at (word dirs) (both (word name) (both ranges sized_tail)) (part.Name (dir_text d) ∷ from_name) d from_name said [] (dir_read d from_name no) (domain_read es ss a f)))
+    (both_at (word dirs) (both (word name) (both ranges sized_tail)) (part.Name (dir_text d) ∷ from_name) d from_name said [] (dir_read d from_name differs) (domain_read es ss a f)))
 
 raw_read : (n : ℕ) (d : Dir) (es ss : List ℕ) (a : RawArc) → d ≢ dir.Add → AreFilled es ss a → raw_table (table_parts n d es ss a) ≡ Some (raw_line_of n d es ss a)
-raw_read n d es ss a no f = ap (λ o. answered (o >>= ended)) (table_read n d es ss a no f)
+raw_read n d es ss a differs f = ap (λ o. answered (o >>= ended)) (table_read n d es ss a differs f)
 
 -- ---- what they give
 
@@ -244,19 +244,19 @@ given_back names n a arrays iters f =
 -- ---- the law
 
 right_dir : (a : Arc) → a.dir ≢ dir.Add → dir_of (is_right a.dir) (word_of a) ≡ a.dir
-right_dir a no = go a.dir refl
+right_dir a differs = go a.dir refl
   where
     go : (d : Dir) → a.dir ≡ d → dir_of (is_right d) (word_of a) ≡ d
     go dir.Read e = refl
     go dir.Write e = dir_right a.dir (list_all is_single a.dims) (list_any (λ d. d.driven) a.dims) (list_any is_overlapping a.dims) (ap (λ d. not (is_read d)) e) ∙ e
-    go dir.Add e = absurd (no e)
+    go dir.Add e = absurd (differs e)
 
 table_back : TableReadsBack
 unfolding table_line_of table_line_text
-table_back names n a arrays iters different_arrays different_iters h no le sizes =
+table_back names n a arrays iters different_arrays different_iters h differs le sizes =
     let apart_arrays = apart_of names.arrays different_arrays in
     let apart_iters = apart_of names.iters different_iters in
-    let f = fine names (is_right a.dir) a h (right_dir a no) in
+    let f = fine names (is_right a.dir) a h (right_dir a differs) in
     let named_arrays = each_of (λ w. is_name w ≡ true) names.arrays arrays in
     let named_iters = each_of (λ w. is_name w ≡ true) names.iters iters in
     let raw = written_arc names a in
@@ -274,7 +274,7 @@ table_back names n a arrays iters different_arrays different_iters h no le sizes
       arc = arc_filled names (is_right a.dir) a f;
     } in
     ap (λ o. option_and_then (given_table names) (option_and_then raw_table o)) (parts_back (table_pieces names n a) (pieces_fine names n a le raw_is_fine small) ∙ ap Some (solids_table names n a))
-    ∙ ap (option_and_then (given_table names)) (raw_read n a.dir es ss raw no filled)
+    ∙ ap (option_and_then (given_table names)) (raw_read n a.dir es ss raw differs filled)
     ∙ given_back names n a apart_arrays apart_iters f
 
 pub table_reads_back : TableReadsBack

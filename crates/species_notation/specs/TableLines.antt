@@ -47,7 +47,6 @@ ArcTail = ArcWord × (Option (List RawOffset) × (List RawForm × Bool))
 abbrev pub from_bar : Reader Part ArcTail
 from_bar = skip (sign 124) (both (word arc_words) (both offsets (skip (the_word (codes "at")) (both forms (word marks)))))
 
-
 abbrev pub sized_tail : Reader Part (List ℕ × (List ℕ × ArcTail))
 sized_tail = skip (the_word (codes "elements")) (both numbers (skip (the_word (codes "step")) (both numbers from_bar)))
 

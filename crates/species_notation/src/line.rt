@@ -6,13 +6,13 @@ ghost use Rattle.species_notation.specs.declared.refusal.NotationRefusal.TheVari
 ghost use Rattle.species_notation.specs.Gives.{Finds};
 
 use crate::cursor::Cursor;
-use crate::scan::parts_of;
 use crate::given::{Names, SpeciesLine};
 use crate::meaning::given_line;
 use crate::parts::Part;
 use crate::raw::RawLine;
 use crate::reading::line;
 use crate::refusal::NotationRefusal;
+use crate::scan::parts_of;
 use std::alloc::Global;
 
 /// What the parts say, if they are those of a line.
@@ -29,11 +29,7 @@ fn raw_line<'a>(alloc: Global, parts: &[Part<'a>]) -> Result<RawLine<'a>, Notati
 
 /// What the text of a species line says with these names.
 #[tactic(auto, unfolding(crate::specs::Meaning::line_of))]
-pub fn read_line(
-    alloc: Global,
-    text: &[u8],
-    names: &Names,
-) -> Result<SpeciesLine, NotationRefusal>
+pub fn read_line(alloc: Global, text: &[u8], names: &Names) -> Result<SpeciesLine, NotationRefusal>
     ensures ok { IfOk result (λ line. line_of names.now text.now ≡ Some line) }
     ensures syntax { result ≡ Err Syntax → line_of names.now text.now ≡ None }
 {

@@ -52,11 +52,7 @@ fn coefficient_at(iters: &[Name], level: usize, sums: &Totals<'_>) -> i128
 }
 
 /// The form of the iterators that the sums are those of.
-fn given_form(
-    alloc: Global,
-    iters: &[Name],
-    sums: &Totals<'_>,
-) -> Result<Form, NotationRefusal>
+fn given_form(alloc: Global, iters: &[Name], sums: &Totals<'_>) -> Result<Form, NotationRefusal>
     ensures { Finds result (Some (given_form iters.now sums.now)) }
 {
     let mut terms = Terms::new(alloc);
@@ -120,10 +116,7 @@ fn offset_of(offset: &Option<RawSpan>) -> Option<Span>
 }
 
 /// The offsets that stand behind a word.
-fn spans_of(
-    alloc: Global,
-    offsets: &[Option<RawSpan>],
-) -> Result<Items<Span>, NotationRefusal>
+fn spans_of(alloc: Global, offsets: &[Option<RawSpan>]) -> Result<Items<Span>, NotationRefusal>
     ensures { Finds result (each_some offset_of offsets.now) }
 {
     let mut spans = Items::new(alloc);

@@ -37,7 +37,9 @@ fn coefficient_of<'a>(cursor: &mut Cursor<'_, 'a>) -> Result<Option<Spelling<'a>
 
 /// A number, and the name that it is a coefficient of.
 #[tactic(auto, unfolding(crate::specs::Readers::product))]
-fn product<'a>(cursor: &mut Cursor<'_, 'a>) -> Result<(Natural, Option<Spelling<'a>>), NotationRefusal>
+fn product<'a>(
+    cursor: &mut Cursor<'_, 'a>,
+) -> Result<(Natural, Option<Spelling<'a>>), NotationRefusal>
     ensures value { Gives result cursor.new (product cursor.old) }
     ensures shorter { IfOk result (λ _. length cursor.new < length cursor.old) }
 {
@@ -398,7 +400,10 @@ fn sequential<'a>(cursor: &mut Cursor<'_, 'a>) -> Result<RawLine<'a>, NotationRe
 
 /// A line.
 #[tactic(auto, unfolding(crate::specs::Readers::line_reader))]
-pub(crate) fn line<'a>(alloc: Global, cursor: &mut Cursor<'_, 'a>) -> Result<RawLine<'a>, NotationRefusal>
+pub(crate) fn line<'a>(
+    alloc: Global,
+    cursor: &mut Cursor<'_, 'a>,
+) -> Result<RawLine<'a>, NotationRefusal>
     ensures value { Gives result cursor.new (line_reader cursor.old) }
     ensures shorter { IfOk result (λ _. length cursor.new < length cursor.old) }
 {

@@ -149,10 +149,7 @@ impl<'a> Totals<'a> {
 }
 
 /// The sums of a form, if none on the way is too large.
-pub(crate) fn sums_of<'a>(
-    alloc: Global,
-    form: &RawForm<'a>,
-) -> Result<Totals<'a>, NotationRefusal>
+pub(crate) fn sums_of<'a>(alloc: Global, form: &RawForm<'a>) -> Result<Totals<'a>, NotationRefusal>
     ensures { Finds result (sums_of form.now) }
 {
     let mut totals = Totals::new(alloc);

@@ -80,7 +80,10 @@ fn other_texts_are_not_read(rt: HostRuntime) -> Result<(), Fail> {
         b"none /* x -> none",
     ];
     for text in texts {
-        assert_eq!(rt; refusal(rt.alloc(), text, &names), Some(NotationRefusal::Syntax));
+        assert_eq!(rt;
+            refusal(rt.alloc(), text, &names),
+            Some(NotationRefusal::Syntax)
+        );
     }
     Ok(())
 }
