@@ -124,6 +124,13 @@ fitting_some z y h = go (fits z) refl h
     go true e h = (e, some_same y z h)
     go false e h = absurd (none_some y (sym h))
 
+-- a sum that fits is the code's number of it
+whole_sum : (z y : ℤ) → Some z ≡ fitting y → to_z w128 (of_z w128 z) ≡ z
+whole_sum z y h =
+    let f = fitting_some y z h in
+    let small : unsigned_abs z ≤ most = fits_small z (ap fits f.1 ∙ f.0) in
+    to_z-of_z w128 z (fits_signed_from_abs w128 z (omega (arith, small)))
+
 fitting_none : (z : ℤ) → None ≡ fitting z → fits z ≡ false
 fitting_none z h = go (fits z) refl h
   where
@@ -196,6 +203,20 @@ name_set c old new k n z h e is =
     name_added (sums_seen c old) k.now n z h e
     ∙ ap (λ l. Some (record { constant = c; names = l })) (sym (ap (map entry_seen) is ∙ raised_seen k n z old.entries (fitting_some (sum_in k.now old.entries +ℤ n) z e).1))
 
+-- the same of the sums that the table shows, where the name's sum was looked up
+pub name_stored : (s : Sums) (c : ℤ) (old new : Table) (k : Bor (List ℕ)) (n r z : ℤ) → IsLimited (sums_seen c old) → sums_seen c old ≡ s
+    → r ≡ coefficient_in k.now s.names → Some z ≡ fitting (r +ℤ n) → new.entries ≡ insert_entry same_key old.entries k (to_z w128 (of_z w128 z))
+    → limited (with_product n (Some k.now) s) ≡ Some (sums_seen c new)
+name_stored s c old new k n r z h seen is e stored =
+    let own : r ≡ sum_in k.now old.entries = is ∙ ap (λ t. coefficient_in k.now t.names) (sym seen) in
+    ap (λ t. limited (with_product n (Some k.now) t)) (sym seen)
+    ∙ name_set c old new k n z h (e ∙ ap (λ y. fitting (y +ℤ n)) own) (stored ∙ ap (insert_entry same_key old.entries k) (whole_sum z (r +ℤ n) e))
+
+pub name_refused : (s : Sums) (c : ℤ) (old : Table) (w : List ℕ) (n r : ℤ) → IsLimited (sums_seen c old) → sums_seen c old ≡ s
+    → r ≡ coefficient_in w s.names → None ≡ fitting (r +ℤ n) → limited (with_product n (Some w) s) ≡ None
+name_refused s c old w n r h seen is e =
+    name_large s w n (subst IsLimited seen h) (e ∙ ap (λ y. fitting (y +ℤ n)) is)
+
 -- what is limited stays so
 pub still_limited : (s t : Sums) → limited s ≡ Some t → IsLimited t
 still_limited s t h = go (fits s.constant && list_all (λ e. fits e.1) s.names) refl h
@@ -233,6 +254,21 @@ known_end q [] zero le = refl
 known_end q [] (suc at) le = refl
 known_end q (e ∷ es) zero le = let x : ⊥ = omega (arith, le) in absurd x
 known_end q (e ∷ es) (suc at) le = known_end q es at (omega (arith, le))
+
+-- the same of the sums that the table shows
+pub known_more : (iters : List (List ℕ)) (s : Sums) (c : ℤ) (t : Table) (at : ℕ) (p : Bor (List ℕ) × ℤ) → sums_seen c t ≡ s
+    → is_known iters s ≡ list_all (known_in iters) (drop at s.names) → Some p ≡ slice_get t.entries at → list_any (bytes_eq p.0.now) iters ≡ true
+    → is_known iters s ≡ list_all (known_in iters) (drop (at + 1) s.names)
+known_more iters s c t at p seen e h k =
+    e ∙ ap (λ r. list_all (known_in iters) (drop at r.names)) (sym seen)
+    ∙ known_next (known_in iters) t.entries at p h k
+    ∙ ap (λ r. list_all (known_in iters) (drop (at + 1) r.names)) seen
+
+pub known_false : (iters : List (List ℕ)) (s : Sums) (c : ℤ) (t : Table) (at : ℕ) (p : Bor (List ℕ) × ℤ) → sums_seen c t ≡ s
+    → is_known iters s ≡ list_all (known_in iters) (drop at s.names) → Some p ≡ slice_get t.entries at → list_any (bytes_eq p.0.now) iters ≡ false
+    → false ≡ is_known iters s
+known_false iters s c t at p seen e h k =
+    sym (e ∙ ap (λ r. list_all (known_in iters) (drop at r.names)) (sym seen) ∙ known_not (known_in iters) t.entries at p h k)
 
 -- ---- the summands one by one
 

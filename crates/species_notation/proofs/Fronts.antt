@@ -10,7 +10,7 @@ use Rattle.species_ast.specs.Text.Characters.{begins, run_of}
 use Rattle.species_ast.specs.Text.Comments.{closing_len}
 use Rattle.species_notation.specs.declared.parts.Part.{Part}
 use Rattle.species_notation.specs.declared.parts.Part.TheVariants as part
-use Rattle.species_notation.specs.Parts.{most, gap_front, is_sign, Start, start_of, word_of_run, number_of_run, run_front, Taken, taken_in, taken_at, taken_from, with_part, and_parts, parts_at, parts_of}
+use Rattle.species_notation.specs.Parts.{most, gap_front, gap_at, is_sign, Start, start_of, word_of_run, number_of_run, run_front, Taken, taken_in, taken_at, taken_from, with_part, and_parts, parts_at, parts_of}
 
 -- a slice from a place on
 pub tail_is : (xs : List ℕ) (n : ℕ) → take (length xs - n) (drop n xs) ≡ drop n xs
@@ -112,6 +112,50 @@ takes_some b bytes t h = go (start_of b bytes) refl h
     go Start.Arrow e k = longer 2 (Some part.Arrow) t (omega arith) k
     go Start.Sign e k = longer 1 (Some (part.Sign b)) t (omega arith) k
     go Start.Wrong e k = absurd (none_some t k)
+
+-- ---- words and numbers at the front
+
+no_gap : (n : ℕ) → n ≤ 0 → nat_lt 0 n ≡ false
+no_gap n le = grind (arith, nat_tests)
+
+abbrev start_with : Bool → Bool → ℕ → List ℕ → Start
+start_with g l b bytes =
+    if g then Start.Gap
+    else if l then Start.Letter
+    else if is_digit b then Start.Digit
+    else if begins (codes "->") (b ∷ bytes) then Start.Arrow
+    else if is_sign b then Start.Sign
+    else Start.Wrong
+
+word_front : (b : ℕ) (bytes : List ℕ) → nat_lt 0 (gap_front b bytes) ≡ false → is_letter b ≡ true → taken_at b bytes ≡ word_of_run (run_front b bytes)
+unfolding taken_at
+word_front b bytes gap letter =
+    ap (λ g. taken_in (start_with g (is_letter b) b bytes) b bytes) gap
+    ∙ ap (λ l. taken_in (start_with false l b bytes) b bytes) letter
+
+number_front : (b : ℕ) (bytes : List ℕ) → nat_lt 0 (gap_front b bytes) ≡ false → is_letter b ≡ false → is_digit b ≡ true → taken_at b bytes ≡ number_of_run (run_front b bytes)
+unfolding taken_at
+number_front b bytes gap letter digit =
+    ap (λ g. taken_in (start_with g (is_letter b) b bytes) b bytes) gap
+    ∙ ap (λ l. taken_in (start_with false l b bytes) b bytes) letter
+    ∙ ap (λ d. taken_in (if d then Start.Digit else if begins (codes "->") (b ∷ bytes) then Start.Arrow else if is_sign b then Start.Sign else Start.Wrong) b bytes) digit
+
+-- the same of a whole text, by the length of its first word
+pub word_taken : (text : List ℕ) (k : ℕ) (o : Option Taken) → 0 < length text → k ≡ run_of is_word (take (length text - 1) (drop 1 text)) → gap_at text ≤ 0 → is_letter (get_or text 0 0) ≡ true
+    → o ≡ word_of_run (take (1 + k) text) → o ≡ taken_from text
+word_taken [] k o lt e gap letter h = let x : ⊥ = omega (arith, lt) in absurd x
+word_taken (b ∷ bytes) k o lt e gap letter h =
+    let same : k ≡ run_of is_word bytes = e ∙ ap (run_of is_word) (tail_is (b ∷ bytes) 1) in
+    let len : 1 + k ≡ suc (run_of is_word bytes) = omega (arith, same) in
+    h ∙ ap (λ n. word_of_run (take n (b ∷ bytes))) len ∙ sym (word_front b bytes (no_gap (gap_front b bytes) gap) letter)
+
+pub number_taken : (text : List ℕ) (k : ℕ) (o : Option Taken) → 0 < length text → k ≡ run_of is_word (take (length text - 1) (drop 1 text)) → gap_at text ≤ 0 → is_letter (get_or text 0 0) ≡ false
+    → is_digit (get_or text 0 0) ≡ true → o ≡ number_of_run (take (1 + k) text) → o ≡ taken_from text
+number_taken [] k o lt e gap letter digit h = let x : ⊥ = omega (arith, lt) in absurd x
+number_taken (b ∷ bytes) k o lt e gap letter digit h =
+    let same : k ≡ run_of is_word bytes = e ∙ ap (run_of is_word) (tail_is (b ∷ bytes) 1) in
+    let len : 1 + k ≡ suc (run_of is_word bytes) = omega (arith, same) in
+    h ∙ ap (λ n. number_of_run (take n (b ∷ bytes))) len ∙ sym (number_front b bytes (no_gap (gap_front b bytes) gap) letter digit)
 
 -- ---- the bound on the number of parts does not matter where it is large enough
 

@@ -70,6 +70,13 @@ first_only w (v ∷ vs) es = first_only w vs (without v es) ∙ ap (λ c. if lis
     go false false true h = cc
     go false false false h = refl
 
+pub seen_before : (w : List ℕ) (seen : List (List ℕ)) (es : List Entry) → list_any (bytes_eq w) seen ≡ true → pos 0 ≡ coefficient_in w (left_after seen es)
+seen_before w seen es h = sym (first_only w seen es ∙ ap (λ b. if b then pos 0 else coefficient_in w es) h)
+
+pub seen_first : (w : List ℕ) (seen : List (List ℕ)) (es : List Entry) (z : ℤ) → list_any (bytes_eq w) seen ≡ false → z ≡ coefficient_in w es
+    → z ≡ coefficient_in w (left_after seen es)
+seen_first w seen es z h is = is ∙ sym (first_only w seen es ∙ ap (λ b. if b then pos 0 else coefficient_in w es) h)
+
 pub left_one : (seen : List (List ℕ)) (w : List ℕ) (es : List Entry) → left_after (seen ++ w ∷ []) es ≡ without w (left_after seen es)
 left_one [] w es = refl
 left_one (v ∷ vs) w es = left_one vs w (without v es)
@@ -82,6 +89,12 @@ put_front k c ts = go (nat_eq (unsigned_abs c) 0)
     go : (b : Bool) → (if b then ts else record { level = k; coefficient = c } ∷ ts) ≡ (if b then [] else record { level = k; coefficient = c } ∷ []) ++ ts
     go true = refl
     go false = refl
+
+-- what stands at a place is the name there
+pub named : (names : List (List ℕ)) (i : ℕ) (x : List ℕ) → i < length names → x ≡ get_or names i x → x ≡ name_at names i
+named [] i x lt h = let x : ⊥ = omega (arith, lt) in absurd x
+named (w ∷ ws) zero x lt h = h
+named (w ∷ ws) (suc i) x lt h = named ws i x (omega (arith, lt)) h
 
 name_here : (iters : List (List ℕ)) (i : ℕ) → i < length iters → drop i iters ≡ name_at iters i ∷ drop (suc i) iters
 name_here iters i lt = drop-cons iters i [] lt

@@ -42,11 +42,11 @@ written_term iters t = record { negative = is_negative t.coefficient; number = u
 abbrev pub written_constant : ℤ → Summand
 written_constant c = record { negative = is_negative c; number = unsigned_abs c; name = None }
 
--- the constant, where it isn't 0
+-- a constant of 0 is left out
 abbrev pub constant_behind : ℤ → List Summand
 constant_behind c = if nat_eq (unsigned_abs c) 0 then [] else written_constant c ∷ []
 
--- or where there is no term
+-- unless nothing else is written
 abbrev pub closed_with : ℤ → List Summand → RawForm
 closed_with c [] = record { first = written_constant c; more = [] }
 closed_with c (s ∷ ss) = record { first = s; more = ss ++ constant_behind c }

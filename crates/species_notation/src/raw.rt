@@ -40,6 +40,9 @@ impl<'a> Spelling<'a> {
     }
 }
 
+/// The greatest number, and the greatest size of a sum: 2^70.
+pub(crate) const MOST: u128 = 1180591620717411303424;
+
 /// A number of the text, which is at most 2^70.
 #[derive(Drop)]
 pub(crate) struct Natural {

@@ -7,15 +7,12 @@ ghost use Rattle.species_notation.specs.Parts.{most, gap_at, is_sign, word_of_ru
 ghost use Rattle.species_notation.specs.Gives.{Finds};
 
 use crate::parts::Part;
-use crate::raw::{Natural, Spelling};
+use crate::raw::{MOST, Natural, Spelling};
 use crate::refusal::NotationRefusal;
 use itoa::Buffer;
 use species_ast::{is_blank, is_digit, is_keyword, is_letter, line_len, word_len};
 use sqlite_items::Items;
 use std::alloc::{AllocError, Global};
-
-/// The greatest number.
-const MOST: u128 = 1180591620717411303424;
 
 /// How many bytes there are up to the first `*/`, with it.
 fn closing_len(bytes: &[u8]) -> Option<usize>

@@ -6,15 +6,12 @@ ghost use Rattle.species_notation.specs.Meaning.{fits, signed, no_sums, limited,
 ghost use Rattle.species_notation.specs.Tables.{fitting};
 ghost use Rattle.species_notation.specs.Gives.{Finds, Leaves};
 
-use crate::raw::{Natural, RawForm, Summand};
+use crate::raw::{MOST, Natural, RawForm, Summand};
 use crate::refusal::NotationRefusal;
 use indexmap::IndexMap;
 use species_ast::Name;
 use std::alloc::Global;
 use std::marker::Model;
-
-/// The greatest size of a sum.
-const MOST: u128 = 1180591620717411303424;
 
 /// The sum of the plain numbers, and those of the names, each name once. None is too large.
 #[derive(Drop)]

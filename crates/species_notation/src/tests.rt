@@ -1,7 +1,7 @@
 //! Texts that are read, texts that are not, and what a line gives.
 
 use crate::{GivenArc, GivenDim, Names, NotationRefusal, read_line};
-use species_arcs::Dir;
+use species_arcs::{Dir, Span};
 use species_ast::Name;
 use sqlite_items::Items;
 use std::alloc::{AllocError, Global};
@@ -63,8 +63,8 @@ fn texts_of_lines_are_read(rt: HostRuntime) -> Result<(), Fail> {
 fn other_texts_are_not_read(rt: HostRuntime) -> Result<(), Fail> {
     let names = some_names(rt.alloc())?;
     let texts: [&[u8]; 15] = [
+        b"A[0:63]|neighbourhood(-1:1:3) at (i) within -> B[1:62]|element at (i) exact",
         b"int[0:1]|element at (i) exact -> none",
-        b"A[0:1,2:3]|element at (i) exact -> none",
         b"A[01:2]|element at (i) exact -> none",
         b"A[i*2:1]|element at (i) exact -> none",
         b"A[1180591620717411303425:0]|element at (i) exact -> none",
@@ -88,8 +88,21 @@ fn other_texts_are_not_read(rt: HostRuntime) -> Result<(), Fail> {
     Ok(())
 }
 
+/// Whether the dimension moves with the first iterator and has these offsets.
+fn is_dim(dim: &GivenDim, offsets: Span) -> bool {
+    let moves = match dim.at.terms.as_slice() {
+        [term] => term.level == 0 && term.coefficient == 1 && dim.at.constant == 0,
+        _ => false,
+    };
+    moves && has_offsets(dim, offsets)
+}
+
+fn has_offsets(dim: &GivenDim, offsets: Span) -> bool {
+    dim.a == offsets.low && dim.b == offsets.high && dim.stride == offsets.stride
+}
+
 /// Whether the arc has one dimension, which moves with the first iterator.
-fn is_arc(arc: &GivenArc, array: u32, dir: Dir, offsets: (i128, i128, u128), exact: bool) -> bool {
+fn is_arc(arc: &GivenArc, array: u32, dir: Dir, offsets: Span, exact: bool) -> bool {
     let as_said = arc.array == Some(array) && arc.dir == dir && arc.exact == exact && arc.known;
     match arc.dims.as_slice() {
         [dim] => as_said && is_dim(dim, offsets),
@@ -97,46 +110,70 @@ fn is_arc(arc: &GivenArc, array: u32, dir: Dir, offsets: (i128, i128, u128), exa
     }
 }
 
-fn is_dim(dim: &GivenDim, offsets: (i128, i128, u128)) -> bool {
-    let moves = match dim.at.terms.as_slice() {
-        [term] => term.level == 0 && term.coefficient == 1 && dim.at.constant == 0,
-        _ => false,
-    };
-    moves && dim.a == offsets.0 && dim.b == offsets.1 && dim.stride == offsets.2
+fn span(low: i128, high: i128, stride: u128) -> Span {
+    Span { low, high, stride }
 }
 
 #[test]
 fn a_line_gives_its_arcs(rt: HostRuntime) -> Result<(), Fail> {
     let names = some_names(rt.alloc())?;
-    let rows: [(&[u8], Option<(i128, i128, u128)>); 4] = [
+    let rows: [(&[u8], Span, Span, bool); 3] = [
         (
             b"A[0:63]|neighbourhood(0:1) at (i) within -> B[1:62]|element at (i) exact",
-            Some((0, 1, 1)),
+            span(0, 1, 1),
+            span(0, 0, 1),
+            true,
         ),
         (
             b"A[0:63]|neighbourhood(-1:1:2) at (i) within -> B[1:62]|element at (i) exact",
-            Some((-1, 1, 2)),
+            span(-1, 1, 2),
+            span(0, 0, 1),
+            true,
         ),
         (
-            b"A[0:63]|neighbourhood(-1:1:3) at (i) within -> B[1:62]|element at (i) exact",
-            None,
+            b"A[0:63]|neighbourhood(-1:8) at (i) within -> B[1:62]|chunk(0:7) at (i) within",
+            span(-1, 8, 1),
+            span(0, 7, 1),
+            false,
         ),
-        (b"A[0:63]|", None),
     ];
-    for (text, offsets) in rows {
+    for (text, offsets, places, exact) in rows {
         match read_line(rt.alloc(), text, &names) {
-            Ok(line) => match (line.arcs.as_slice(), offsets) {
-                ([read, written], Some(offsets)) => {
+            Ok(line) => match line.arcs.as_slice() {
+                [read, written] => {
                     assert!(rt; is_arc(read, 0, Dir::Read, offsets, false));
-                    assert!(rt; is_arc(written, 1, Dir::Write, (0, 0, 1), true));
+                    assert!(rt; is_arc(written, 1, Dir::Write, places, exact));
                 }
                 _ => assert!(rt; false),
             },
-            Err(refusal) => {
-                assert_eq!(rt; refusal, NotationRefusal::Syntax);
-                assert!(rt; offsets.is_none());
-            }
+            Err(_) => assert!(rt; false),
         }
+    }
+    Ok(())
+}
+
+#[test]
+fn a_stride_is_that_of_its_dimension(rt: HostRuntime) -> Result<(), Fail> {
+    let names = some_names(rt.alloc())?;
+    let text = b"A[0:63,0:6]|chunk(-,0:6:2) at (i,0) exact -> B[0:63]|element at (i) exact";
+    match read_line(rt.alloc(), text, &names) {
+        Ok(line) => match line.arcs.as_slice() {
+            [read, written] => {
+                match read.dims.as_slice() {
+                    [first, second] => {
+                        assert!(rt; is_dim(first, span(0, 0, 1)));
+                        assert!(rt;
+                            second.at.constant == 0 && second.at.terms.as_slice().is_empty()
+                        );
+                        assert!(rt; has_offsets(second, span(0, 6, 2)));
+                    }
+                    _ => assert!(rt; false),
+                }
+                assert!(rt; is_arc(written, 1, Dir::Write, span(0, 0, 1), true));
+            }
+            _ => assert!(rt; false),
+        },
+        Err(_) => assert!(rt; false),
     }
     Ok(())
 }

@@ -6,6 +6,6 @@ use Rattle.species_notation.proofs.GivenForms.{behind_all, no_offsets}
 use Rattle.species_notation.proofs.meaning.single_places.Given as goal
 
 -- the others come behind those so far
-abbrev pub invariant-loop-_number : goal.invariant-loop-_number
-invariant-loop-_number l =
+abbrev pub invariant-loop-number : goal.invariant-loop-number
+invariant-loop-number l =
     each_some offset_of (no_offsets RawForm RawSpan l.forms) ≡ behind_all l.spans (each_some offset_of (no_offsets RawForm RawSpan (drop l._number l.forms)))
