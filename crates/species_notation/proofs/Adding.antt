@@ -94,9 +94,6 @@ coefficient_fits w (e ∷ es) h =
     go true x y = x
     go false x y = y
 
-pub constant_small : (s : Sums) → IsLimited s → unsigned_abs s.constant ≤ most
-constant_small s h = fits_small s.constant (fit s h).constant
-
 pub coefficient_small : (w : List ℕ) (s : Sums) → IsLimited s → unsigned_abs (coefficient_in w s.names) ≤ most
 coefficient_small w s h = fits_small (coefficient_in w s.names) (coefficient_fits w s.names (fit s h).names)
 
@@ -137,22 +134,6 @@ fitting_none z h = go (fits z) refl h
     go : (b : Bool) → fits z ≡ b → None ≡ (if b then Some z else None) → fits z ≡ false
     go true e h = absurd (none_some z h)
     go false e h = e
-
--- a sum of the plain numbers
-pub constant_added : (s : Sums) (n z : ℤ) → IsLimited s → Some z ≡ fitting (s.constant +ℤ n)
-    → limited (with_product n None s) ≡ Some (record { constant = z; names = s.names })
-constant_added s n z h e =
-    let f = fitting_some (s.constant +ℤ n) z e in
-    limited_fits (s.constant +ℤ n) s.names f.0 (fit s h).names ∙ ap (λ c. Some (record { constant = c; names = s.names })) (sym f.1)
-
-pub constant_kept : (s : Sums) (n z : ℤ) → IsLimited s → Some z ≡ fitting (s.constant +ℤ n) → IsLimited (record { constant = z; names = s.names })
-constant_kept s n z h e =
-    let f = fitting_some (s.constant +ℤ n) z e in
-    limited_fits z s.names (ap fits f.1 ∙ f.0) (fit s h).names
-
-pub constant_large : (s : Sums) (n : ℤ) → None ≡ fitting (s.constant +ℤ n) → limited (with_product n None s) ≡ None
-constant_large s n e =
-    ap (λ b. if b && list_all (λ e. fits e.1) s.names then Some (record { constant = s.constant +ℤ n; names = s.names }) else None) (fitting_none (s.constant +ℤ n) e)
 
 -- a sum of a name
 pub name_added : (s : Sums) (w : List ℕ) (n z : ℤ) → IsLimited s → Some z ≡ fitting (coefficient_in w s.names +ℤ n)
@@ -249,12 +230,6 @@ pub known_not : (q : Entry → Bool) (es : Entries) (at : ℕ) (p : Bor (List �
     → list_all q (drop at (map entry_seen es)) ≡ false
 known_not q es at p h k = known_turn q es at p h ∙ ap (λ b. b && list_all q (drop (suc at) (map entry_seen es))) k
 
-pub known_end : (q : Entry → Bool) (es : Entries) (at : ℕ) → length es ≤ at → list_all q (drop at (map entry_seen es)) ≡ true
-known_end q [] zero le = refl
-known_end q [] (suc at) le = refl
-known_end q (e ∷ es) zero le = let x : ⊥ = omega (arith, le) in absurd x
-known_end q (e ∷ es) (suc at) le = known_end q es at (omega (arith, le))
-
 -- the same of the sums that the table shows
 pub known_more : (iters : List (List ℕ)) (s : Sums) (c : ℤ) (t : Table) (at : ℕ) (p : Bor (List ℕ) × ℤ) → sums_seen c t ≡ s
     → is_known iters s ≡ list_all (known_in iters) (drop at s.names) → Some p ≡ slice_get t.entries at → list_any (bytes_eq p.0.now) iters ≡ true
@@ -274,10 +249,6 @@ known_false iters s c t at p seen e h k =
 
 pub item_turn : {A : Type 0} (xs : List A) (i : ℕ) (x : A) → i < length xs → x ≡ get_or xs i x → drop i xs ≡ x ∷ drop (suc i) xs
 item_turn xs i x lt h = drop-cons xs i x lt ∙ ap (λ y. y ∷ drop (suc i) xs) (sym h)
-
-pub add_turn : (xs : List Summand) (i : ℕ) (x : Summand) (s : Sums) → i < length xs → x ≡ get_or xs i x
-    → add_all (drop i xs) s ≡ option_and_then (add_all (drop (suc i) xs)) (limited (with_summand x s))
-add_turn xs i x s lt h = ap (λ l. add_all l s) (item_turn xs i x lt h)
 
 -- ---- the code's table
 

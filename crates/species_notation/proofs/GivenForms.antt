@@ -119,14 +119,6 @@ terms_turn iters i es all terms new lt e is =
     ∙ ap (λ l. l ++ rest) (sym is)
     ∙ ap (λ l. new ++ terms_from (suc i) (drop (suc i) iters) l) (sym (ap (λ l. left_after l es) (taken_next iters i lt) ∙ left_one (take i iters) w es))
 
-pub terms_end : (iters : List (List ℕ)) (i : ℕ) (es : List Entry) (all terms : List Term) → length iters ≤ i
-    → all ≡ terms ++ terms_from i (drop i iters) (left_after (take i iters) es) → all ≡ terms
-terms_end iters i es all terms le e = e ∙ go (drop i iters) (omega (arith, le, length-drop i iters))
-  where
-    go : (l : List (List ℕ)) → length l ≡ 0 → terms ++ terms_from i l (left_after (take i iters) es) ≡ terms
-    go [] h = append-nil terms
-    go (w ∷ l) h = let x : ⊥ = omega (arith, h) in absurd x
-
 -- the same, with the next level by its sum
 pub terms_next : (iters : List (List ℕ)) (i : ℕ) (es : List Entry) (all terms new : List Term) → i < length iters
     → all ≡ terms ++ terms_from i (drop i iters) (left_after (take i iters) es)
@@ -155,13 +147,6 @@ below_next terms new i c h e =
 abbrev pub behind_all : {B : Type 0} → List B → Option (List B) → Option (List B)
 behind_all ys o = option_map (λ zs. ys ++ zs) o
 
-nothing_before : {B : Type 0} (o : Option (List B)) → o ≡ behind_all [] o
-nothing_before None = refl
-nothing_before (Some ys) = refl
-
-pub each_begins : {A B : Type 0} (f : A → Option B) (xs : List A) → each_some f xs ≡ behind_all [] (each_some f (drop 0 xs))
-each_begins f xs = nothing_before (each_some f xs)
-
 one_more : {B : Type 0} (ys : List B) (y : B) (o : Option (List B)) → behind_all ys (option_map (λ zs. y ∷ zs) o) ≡ behind_all (ys ++ y ∷ []) o
 one_more ys y None = refl
 one_more ys y (Some zs) = ap Some (sym (append_assoc ys (y ∷ []) zs))
@@ -175,49 +160,7 @@ each_turn f xs i x y all ys new lt is e h n =
     ∙ one_more ys y (each_some f (drop (suc i) xs))
     ∙ ap (λ l. behind_all l (each_some f (drop (suc i) xs))) (sym n)
 
-pub each_stuck : {A B : Type 0} (f : A → Option B) (xs : List A) (i : ℕ) (x : A) (all : Option (List B)) (ys : List B)
-    → i < length xs → x ≡ get_or xs i x → all ≡ behind_all ys (each_some f (drop i xs)) → f x ≡ None → all ≡ None
-each_stuck f xs i x all ys lt is e h =
-    e ∙ ap (λ l. behind_all ys (each_some f l)) (item_turn xs i x lt is)
-    ∙ ap (λ o. behind_all ys (option_and_then (λ y. option_map (λ zs. y ∷ zs) (each_some f (drop (suc i) xs))) o)) h
-
-none_left : {A B : Type 0} (f : A → Option B) (ys : List B) (l : List A) → length l ≡ 0 → behind_all ys (each_some f l) ≡ Some ys
-none_left f ys [] h = ap Some (append-nil ys)
-none_left f ys (x ∷ l) h = let x : ⊥ = omega (arith, h) in absurd x
-
-pub each_ends : {A B : Type 0} (f : A → Option B) (xs : List A) (i : ℕ) (all : Option (List B)) (ys : List B)
-    → length xs ≤ i → all ≡ behind_all ys (each_some f (drop i xs)) → all ≡ Some ys
-each_ends f xs i all ys le e = e ∙ none_left f ys (drop i xs) (omega (arith, le, length-drop i xs))
-
 -- ---- dimensions
-
-pub dims_begin : (iters : List (List ℕ)) (ss : List Sums) (os : List Span) → dims_of iters ss os ≡ behind_all [] (dims_of iters (drop 0 ss) (drop 0 os))
-dims_begin iters ss os = nothing_before (dims_of iters ss os)
-
-pub dims_turn : (iters : List (List ℕ)) (ss : List Sums) (os : List Span) (i : ℕ) (s : Sums) (o : Span) (all : Option (List GivenDim)) (ds new : List GivenDim)
-    → i < length ss → i < length os → s ≡ get_or ss i s → o ≡ get_or os i o → all ≡ behind_all ds (dims_of iters (drop i ss) (drop i os))
-    → new ≡ ds ++ dim_of iters s o ∷ [] → all ≡ behind_all new (dims_of iters (drop (suc i) ss) (drop (suc i) os))
-dims_turn iters ss os i s o all ds new lt more is also e n =
-    e ∙ ap (λ l. behind_all ds (dims_of iters l (drop i os))) (item_turn ss i s lt is)
-    ∙ ap (λ l. behind_all ds (dims_of iters (s ∷ drop (suc i) ss) l)) (item_turn os i o more also)
-    ∙ one_more ds (dim_of iters s o) (dims_of iters (drop (suc i) ss) (drop (suc i) os))
-    ∙ ap (λ l. behind_all l (dims_of iters (drop (suc i) ss) (drop (suc i) os))) (sym n)
-
-pub dims_next : (iters : List (List ℕ)) (ss : List Sums) (os : List Span) (i : ℕ) (s : Sums) (o : Span) (all : Option (List GivenDim)) (ds new : List GivenDim)
-    → i < length ss → i < length os → s ≡ get_or ss i s → o ≡ get_or os i o → all ≡ behind_all ds (dims_of iters (drop i ss) (drop i os))
-    → new ≡ ds ++ dim_of iters s o ∷ [] → all ≡ behind_all new (dims_of iters (drop (i + 1) ss) (drop (i + 1) os))
-dims_next iters ss os i s o all ds new lt more is also e n =
-    let next : suc i ≡ i + 1 = omega arith in
-    subst (λ j. all ≡ behind_all new (dims_of iters (drop j ss) (drop j os))) next (dims_turn iters ss os i s o all ds new lt more is also e n)
-
-pub dims_end : (iters : List (List ℕ)) (ss : List Sums) (os : List Span) (i : ℕ) (all : Option (List GivenDim)) (ds : List GivenDim)
-    → length ss ≤ i → length os ≤ i → all ≡ behind_all ds (dims_of iters (drop i ss) (drop i os)) → all ≡ Some ds
-dims_end iters ss os i all ds le also e = e ∙ go (drop i ss) (drop i os) (omega (arith, le, length-drop i ss)) (omega (arith, also, length-drop i os))
-  where
-    go : (l : List Sums) (k : List Span) → length l ≡ 0 → length k ≡ 0 → behind_all ds (dims_of iters l k) ≡ Some ds
-    go [] [] h j = ap Some (append-nil ds)
-    go [] (o ∷ k) h j = let x : ⊥ = omega (arith, j) in absurd x
-    go (s ∷ l) k h j = let x : ⊥ = omega (arith, h) in absurd x
 
 pub dims_apart : (iters : List (List ℕ)) (ss : List Sums) (os : List Span) → (length ss ≡ length os → ⊥) → dims_of iters ss os ≡ None
 dims_apart iters [] [] h = absurd (h refl)
@@ -246,14 +189,6 @@ singles_turn A B f xs i y all ys new lt e h n =
     ∙ ap (λ l. behind_all l (each_some f (no_offsets A B (drop (suc i) xs)))) (sym n)
     ∙ ap (λ j. behind_all new (each_some f (no_offsets A B (drop j xs)))) next
 
-singles_left : (A B : Type 0) {C : Type 0} (f : Option B → Option C) (ys : List C) (l : List A) → length l ≡ 0 → behind_all ys (each_some f (no_offsets A B l)) ≡ Some ys
-singles_left A B f ys [] h = ap Some (append-nil ys)
-singles_left A B f ys (x ∷ l) h = let x : ⊥ = omega (arith, h) in absurd x
-
-pub singles_end : (A B : Type 0) {C : Type 0} (f : Option B → Option C) (xs : List A) (i : ℕ) (all : Option (List C)) (ys : List C)
-    → length xs ≤ i → all ≡ behind_all ys (each_some f (no_offsets A B (drop i xs))) → all ≡ Some ys
-singles_end A B f xs i all ys le e = e ∙ singles_left A B f ys (drop i xs) (omega (arith, le, length-drop i xs))
-
 -- ---- the first place of a name
 
 pub place_found : (w : List ℕ) (ws : List (List ℕ)) (k : ℕ) → k < length ws → ((i : ℕ) → i < k → bytes_eq w (name_at ws i) ≡ false)
@@ -268,11 +203,3 @@ place_missing w ws k le n =
   where
     never_below : (m : ℕ) → nat_lt m m ≡ false
     never_below m = grind arith
-
-pub place_next : (w : List ℕ) (ws : List (List ℕ)) (k : ℕ) → ((i : ℕ) → i < k → bytes_eq w (name_at ws i) ≡ false)
-    → bytes_eq w (name_at ws k) ≡ false → (i : ℕ) → i < k + 1 → bytes_eq w (name_at ws i) ≡ false
-place_next w ws k n h i lt = go (nat_lt i k) refl
-  where
-    go : (b : Bool) → nat_lt i k ≡ b → bytes_eq w (name_at ws i) ≡ false
-    go true e = n i (ltb-true i k e)
-    go false e = let same : k ≡ i = omega (arith, lt, ltb-false i k e) in subst (λ j. bytes_eq w (name_at ws j) ≡ false) same h
