@@ -1,6 +1,6 @@
 -- Sums in a table: a name looked up, a number added, and the names that are known.
-use Rattle.std.proofs.Common.{◌≡◌, ◌∙◌, ap, sym, subst, refl, to_z, of_z, ℕ, zero, suc, ◌+◌, ◌<◌, ◌≤◌, List, [], ◌∷◌, ◌++◌, map, length, drop, get_or, Option, Some, None, Bool, true, false, cond, arith, drop-cons, ℤ, pos, ◌+ℤ◌}
-use Rattle.std.specs.Prelude.{if◌then◌else◌, bytes_eq, ◌&&◌, option_and_then, slice_get, unwrap_or}
+use Rattle.std.proofs.Common.{◌≡◌, ◌∙◌, ap, sym, subst, refl, to_z, of_z, ℕ, zero, suc, ◌+◌, ◌<◌, ◌≤◌, List, [], ◌∷◌, map, length, drop, get_or, Option, Some, None, Bool, true, false, cond, arith, drop-cons, ℤ, pos, ◌+ℤ◌}
+use Rattle.std.specs.Prelude.{if◌then◌else◌, bytes_eq, ◌&&◌, slice_get, unwrap_or}
 use Rattle.std.specs.List.{list_all, list_any}
 use Rattle.std.specs.Int.{w128}
 use Rattle.std.specs.Int.RustNames.{unsigned_abs}
@@ -9,10 +9,9 @@ use Rattle.std.proofs.lemmas.Int.{to_z-of_z, fits_signed_from_abs}
 use Rattle.std.proofs.lemmas.Slice.Eq.{bytes_eq-Decides}
 use Rattle.indexmap.specs.IndexMap.{insert_entry}
 use Rattle.std.specs.Map.{lookup}
-use Rattle.species_notation.specs.declared.raw.Summand.{Summand}
 use Rattle.species_notation.specs.Parts.{most}
-use Rattle.species_notation.specs.Meaning.{fits, signed, Entry, Sums, raised, with_product, with_summand, limited, add_all, no_sums, sums_of, coefficient_in, is_known}
-use Rattle.species_notation.specs.Tables.{Table, entry_seen, entries_seen, sums_seen, IsLimited, fitting}
+use Rattle.species_notation.specs.Meaning.{fits, Entry, Sums, raised, with_product, limited, coefficient_in, is_known}
+use Rattle.species_notation.specs.Tables.{Table, entry_seen, sums_seen, IsLimited, fitting}
 use Rattle.species_notation.proofs.FormSums.{and_both, zero_plus, AllFit, limited_fits}
 use denote.Ref.{Bor}
 

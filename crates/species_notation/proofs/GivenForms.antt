@@ -1,15 +1,13 @@
 -- What each turn of the loops over forms, offsets, dimensions and arcs adds.
-use Rattle.std.proofs.Common.{◌≡◌, ◌∙◌, ap, sym, subst, refl, ℕ, zero, suc, ◌+◌, ◌<◌, ◌≤◌, List, [], ◌∷◌, ◌++◌, map, length, take, drop, get_or, Option, Some, None, Bool, true, false, All, arith, drop-cons, take-add, length-drop, append_assoc, append-nil, ℤ, pos}
-use Rattle.std.specs.Prelude.{if◌then◌else◌, bytes_eq, nat_eq, ◌&&◌, ◌||◌, not, option_map, option_and_then, slice_index_or, filter, nat_lt, position}
-use Rattle.std.specs.List.{list_all, list_any}
+use Rattle.std.proofs.Common.{◌≡◌, ◌∙◌, ap, sym, subst, refl, ℕ, zero, suc, ◌+◌, ◌<◌, ◌≤◌, List, [], ◌∷◌, ◌++◌, map, length, take, drop, get_or, Option, Some, None, Bool, true, false, All, arith, drop-cons, append_assoc, ℤ, pos}
+use Rattle.std.specs.Prelude.{if◌then◌else◌, bytes_eq, nat_eq, ◌||◌, not, option_map, option_and_then, nat_lt, position}
+use Rattle.std.specs.List.{list_any}
 use Rattle.std.specs.Int.RustNames.{unsigned_abs}
 use Rattle.std.proofs.lemmas.Slice.Eq.{bytes_eq-Decides}
 use Rattle.std.proofs.lemmas.List.Elements.{All-append}
 use Rattle.std.proofs.lemmas.List.Sums.{position_or_len_is}
-use Rattle.std.proofs.lemmas.Bool.{ltb-true, ltb-false}
 use Rattle.species_linear.specs.declared.forms.Term.{Term}
 use Rattle.species_arcs.specs.declared.spans.Span.{Span}
-use Rattle.species_notation.specs.declared.given.GivenDim.{GivenDim}
 use Rattle.species_notation.specs.Meaning.{Entry, Sums, coefficient_in, without, put_term, terms_from, each_some, dim_of, dims_of}
 use Rattle.species_notation.specs.Written.{name_at}
 use Rattle.species_notation.specs.Tables.{left_after}

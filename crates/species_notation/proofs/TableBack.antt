@@ -1,10 +1,10 @@
 -- The line of the table that is written for an arc says this arc and its domain.
-use Rattle.std.proofs.Common.{◌≡◌, ◌≢◌, ◌∙◌, ap, sym, subst, refl, ℕ, ◌<◌, ◌≤◌, ◌^◌, List, [], ◌∷◌, ◌++◌, map, length, All, Option, Some, None, Bool, true, false, append_assoc}
+use Rattle.std.proofs.Common.{◌≡◌, ◌≢◌, ◌∙◌, ap, sym, subst, refl, ℕ, ◌≤◌, List, [], ◌∷◌, ◌++◌, map, Some, None, true, append_assoc}
 use Rattle.std.specs.Prelude.{codes, not, option_map, option_and_then, if◌then◌else◌}
 use Rattle.std.specs.List.{list_all, list_any}
 use Rattle.species_ast.specs.Names.{is_name}
-use Rattle.species_grammar.specs.Reader.{Answer, Reader, ◌>>=◌, word, both, mapped, skip, ends}
-use Rattle.species_grammar.specs.Whole.{whole, ended}
+use Rattle.species_grammar.specs.Reader.{Answer, Reader, ◌>>=◌, word, both, skip, ends}
+use Rattle.species_grammar.specs.Whole.{ended}
 use Rattle.species_linear.specs.declared.forms.Form.{Form}
 use Rattle.species_arcs.specs.declared.places.Dir.{Dir}
 use Rattle.species_arcs.specs.declared.places.Dir.TheVariants as dir
@@ -15,15 +15,13 @@ use Rattle.species_notation.specs.declared.parts.Part.{Part}
 use Rattle.species_notation.specs.declared.parts.Part.TheVariants as part
 use Rattle.species_notation.specs.declared.raw.RawRange.{RawRange}
 use Rattle.species_notation.specs.declared.raw.RawArc.{RawArc}
-use Rattle.species_notation.specs.declared.given.GivenArc.{GivenArc}
 use Rattle.species_notation.specs.declared.given.Names.{Names}
-use Rattle.species_notation.specs.Parts.{most, Piece, Solid, Space, solids, text_of, parts_of}
+use Rattle.species_notation.specs.Parts.{most, Piece, Solid, Space, solids}
 use Rattle.species_notation.specs.Spelled.{listed_parts, range_parts, form_parts, offsets_parts, word_text, mark_text, arc_forms}
 use Rattle.species_notation.specs.Readers.{sign, the_word, name, number, listed, ranges, answered}
-use Rattle.species_notation.specs.Meaning.{Sums, is_known, given_form, sums_of, each_some, given_arc, dir_of}
-use Rattle.species_notation.specs.Written.{is_read, spaced, written_form, written_range, written_arc, dir_text, arc_domain, arc_shape, arc_tail, number_parts, numbers_pieces, sizes_pieces, table_front, table_pieces, table_line_text}
-use Rattle.species_notation.specs.Law.{AreNames, AreDifferent, IsReadableArc, arc_as_given}
-use Rattle.species_notation.specs.TableLines.{dirs, numbers, from_bar, ArcTail, sized_tail, RawTableLine, raw_table_of, table_reader, TableLine, known_form, form_said, ends_said, is_right, is_dir, table_with, given_table, raw_table, table_line_of, HasReadableSizes, table_line_for, TableReadsBack}
+use Rattle.species_notation.specs.Meaning.{Sums, given_form, each_some, given_arc, dir_of}
+use Rattle.species_notation.specs.Written.{is_read, written_form, written_range, written_arc, dir_text, arc_domain, arc_shape, arc_tail, number_parts, numbers_pieces, sizes_pieces, table_front, table_pieces, table_line_text}
+use Rattle.species_notation.specs.TableLines.{dirs, numbers, from_bar, ArcTail, sized_tail, RawTableLine, raw_table_of, table_reader, known_form, form_said, ends_said, is_right, is_dir, table_with, given_table, raw_table, table_line_of, HasReadableSizes, table_line_for, TableReadsBack}
 use Rattle.species_notation.proofs.Combining.{both_at, mapped_at, skip_at, ends_at, listed_at}
 use Rattle.species_notation.proofs.Cutting.{IsSign, PiecesFine, begins_apart, parts_back}
 use Rattle.species_notation.proofs.Fine.{Each, Apart, DimFine, FormFine, ArcFine}
@@ -34,7 +32,7 @@ use Rattle.species_notation.proofs.FormSums.{entry_of}
 use Rattle.species_notation.proofs.PieceParts.{solids_map, solids_append}
 use Rattle.species_notation.proofs.Pieces.{on, Chunk, RangeFine, RawArcFine, chunk_tail, sign_tail, sign_chunk, no_parts, word_then, number_chunk, list_chunk, range_chunk, offsets_tail, word_name, mark_name, at_chunk}
 use Rattle.species_notation.proofs.LinesBack.{each_mapped, filled_map, arc_filled, raw_fine}
-use Rattle.species_notation.proofs.ReadBack.{each_of, apart_of, dir_left, dir_right, fine}
+use Rattle.species_notation.proofs.ReadBack.{each_of, apart_of, dir_right, fine}
 
 abbrev Small : List ℕ → Type 0
 Small ns = Each (λ n. n ≤ most) ns

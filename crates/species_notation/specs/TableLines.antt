@@ -1,5 +1,5 @@
 -- What a line of the table of arcs says.
-use Rattle.std.specs.Prelude.{◌≡◌, ◌≢◌, ℕ, ◌≤◌, ◌^◌, Bool, true, false, ◌&&◌, bytes_eq, if◌then◌else◌, List, codes, map, All, Option, Some, None, option_map, option_and_then}
+use Rattle.std.specs.Prelude.{◌≡◌, ◌≢◌, ℕ, ◌≤◌, ◌^◌, Bool, true, false, bytes_eq, if◌then◌else◌, List, codes, map, All, Option, Some, None, option_map, option_and_then}
 use Rattle.species_grammar.specs.Reader.{Reader, Word, word, both, mapped, skip, ends}
 use Rattle.species_grammar.specs.Whole.{whole}
 use Rattle.species_linear.specs.declared.forms.Form.{Form}

@@ -1,5 +1,5 @@
 -- The goals of `parts_of` that need an answer.
-use Rattle.std.proofs.Common.{rules, arith}
+use Rattle.std.proofs.Common.{rules}
 use Rattle.species_notation.proofs.Fronts.{cut_next, cut_fails, cut_ends}
 use Rattle.species_notation.proofs.scan.parts_of.Goals as goal
 
