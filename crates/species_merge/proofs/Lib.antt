@@ -6,3 +6,4 @@ pub mod TermLemmas
 pub mod ClassLemmas
 pub mod MemberLemmas
 pub mod SmallBoxes
+pub mod BandLemmas
