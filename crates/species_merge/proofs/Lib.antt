@@ -7,3 +7,4 @@ pub mod ClassLemmas
 pub mod MemberLemmas
 pub mod SmallBoxes
 pub mod BandLemmas
+pub mod ArcLemmas

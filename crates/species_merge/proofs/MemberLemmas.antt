@@ -28,7 +28,7 @@ kept_without test first xs i d l is =
     none_more [] = refl
     none_more (y ∷ ys) = ap (λ zs. y ∷ zs) (none_more ys)
 
-all_one : {X : Type 0} (P : X → Type 0) (x : X) → P x → All P (x ∷ [])
+pub all_one : {X : Type 0} (P : X → Type 0) (x : X) → P x → All P (x ∷ [])
 all_one P x p zero d l = p
 all_one P x p (suc k) d l = absurd (omega (arith, l))
 

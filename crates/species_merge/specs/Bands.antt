@@ -2,6 +2,7 @@
 use Rattle.std.specs.Prelude.{◌≡◌, ℕ, ◌*◌, ◌-◌, ◌≤◌, ℤ, pos, ◌+ℤ◌, Bool, true, false, nat_lt, if◌then◌else◌, List, [], ◌∷◌, map, slice_index_or, All, Option, Some, None}
 use Rattle.std.specs.List.{Any}
 use Rattle.std.specs.Int.RustNames.{unsigned_abs, int_lt}
+use Rattle.std.specs.Ordering.{int_eq}
 use Rattle.species_linear.specs.Point.{Point}
 use Rattle.species_linear.specs.Rising.{IsRising}
 use Rattle.species_linear.specs.Value.{coefficient_at, form_at}
@@ -19,6 +20,10 @@ no_bound = record { least = zero_form; greatest = zero_form; step = pos 0 }
 
 abbrev pub bound_at : List BandBound → ℕ → BandBound
 bound_at bands k = slice_index_or bands k no_bound
+
+-- a term, and none where its coefficient is 0
+abbrev pub unless_zero : Term → List Term
+unless_zero t = if int_eq t.coefficient (pos 0) then [] else t ∷ []
 
 -- ---- steps
 

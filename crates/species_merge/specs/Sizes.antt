@@ -1,16 +1,21 @@
 -- References and bounds whose numbers are small enough for machine words.
-use Rattle.std.specs.Prelude.{ℕ, ◌<◌, ◌≤◌, ◌^◌, ◌≤ℤ◌, All}
+use Rattle.std.specs.Prelude.{ℕ, ◌<◌, ◌≤◌, ◌^◌, ◌≤ℤ◌, List, All}
 use Rattle.std.specs.Int.RustNames.{unsigned_abs}
 use Rattle.species_affine.specs.declared.subscript.Subscript.{Subscript}
 use Rattle.species_affine.specs.declared.subscript.Subscript.TheVariants.{Affine, Other}
 use Rattle.species_arcs.specs.declared.spans.Span.{Span}
 use Rattle.species_linear.specs.declared.forms.Form.{Form}
+use Rattle.species_linear.specs.declared.forms.Term.{Term}
 use Rattle.species_references.specs.declared.nest.Reference.{Reference}
 use Rattle.species_merge.specs.declared.bands.BandBound.{BandBound}
 
--- Each number of the form is at most so large in size.
+-- Each coefficient is at most so large in size.
+abbrev pub HasTerms : ℕ → List Term → Type 0
+HasTerms m ts = All (λ t. unsigned_abs t.coefficient ≤ m) ts
+
+-- Each number of the form is.
 abbrev pub HasNumbers : ℕ → Form → Type 0
-HasNumbers m f = (unsigned_abs f.constant ≤ m) × All (λ t. unsigned_abs t.coefficient ≤ m) f.terms
+HasNumbers m f = (unsigned_abs f.constant ≤ m) × HasTerms m f.terms
 
 abbrev pub IsSmallSubscript : Subscript → Type 0
 IsSmallSubscript (Affine f) = HasNumbers (2 ^ 40) f
