@@ -115,11 +115,11 @@ dims_push outer bands rs k (t ∷ ss) [] s d j h e is = absurd h
 dims_push outer bands rs k (t ∷ ss) (c ∷ ds) s d j h e is = (h.0, dims_push outer bands rs (suc k) ss ds s d j h.1 (omega (arith, e)) is)
 
 -- The dimensions of the first i subscripts, and the hulls of the boxes in them.
-pub record AreDimsSoFar (outer : ℕ) (bands : List BandBound) (rs : List Reference) (subs : List Subscript) (i : ℕ) (dims : List ArcDim) (hulls : List Span) : Type 0 where
-  pub dims : AreDimsFrom outer bands rs 0 (take i subs) dims
-  pub hulls : hulls ≡ map added_in dims
-  pub small : All IsSmallBox hulls
-  pub spans : All HasSmallSpan dims
+pub record AreDimsSoFar (outer : ℕ) (bands : List BandBound) (rs : List Reference) (subs : List Subscript) (i : ℕ) (ds : List ArcDim) (hs : List Span) : Type 0 where
+  pub dims : AreDimsFrom outer bands rs 0 (take i subs) ds
+  pub hulls : hs ≡ map added_in ds
+  pub small : All IsSmallBox hs
+  pub spans : All HasSmallSpan ds
 
 pub dims_none : (outer : ℕ) (bands : List BandBound) (rs : List Reference) (subs : List Subscript) → AreDimsSoFar outer bands rs subs 0 [] []
 dims_none outer bands rs subs = record { dims = tt; hulls = refl; small = all_of IsSmallBox [] tt; spans = all_of HasSmallSpan [] tt }
@@ -168,10 +168,10 @@ pairwise_push R (v ∷ xs) [] x y h r = absurd h
 pairwise_push R (v ∷ xs) (w ∷ ys) x y h r = (h.0, pairwise_push R xs ys x y h.1 r)
 
 -- The classes are those that have their arcs, and those of the references from number i on.
-pub record AreArcsSoFar (outer : ℕ) (bands : List BandBound) (top : ℕ) (rs : List Reference) (i : ℕ) (arcs : List Arc) : Type 0 where
+pub record AreArcsSoFar (outer : ℕ) (bands : List BandBound) (top : ℕ) (rs : List Reference) (i : ℕ) (found : List Arc) : Type 0 where
   pub done : List Class
   pub classes : classes_of top rs ≡ done ++ classes_behind top (take i rs) (drop i rs)
-  pub arcs : Pairwise (IsArcOf outer bands) done arcs
+  pub arcs : Pairwise (IsArcOf outer bands) done found
 
 pub arcs_none : (outer : ℕ) (bands : List BandBound) (top : ℕ) (rs : List Reference) → AreArcsSoFar outer bands top rs 0 []
 arcs_none outer bands top rs = record { done = []; classes = refl; arcs = tt }

@@ -1,10 +1,10 @@
 -- Terms one more, and the steps and ends of a band.
-use Rattle.std.proofs.Common.{◌≡◌, ◌≢◌, ◌∙◌, refl, ap, sym, subst, arith, ℕ, zero, suc, ◌+◌, ◌-◌, ◌*◌, ◌<◌, ◌≤◌, ◌^◌, Bool, true, false, not, nat_lt, if◌then◌else◌, ℤ, pos, ◌+ℤ◌, ◌*ℤ◌, List, [], ◌∷◌, ◌++◌, length, take, slice_index_or, map, Option, Some, None, unwrap_or, All, inl, inr}
+use Rattle.std.proofs.Common.{◌≡◌, ◌≢◌, ◌∙◌, refl, ap, sym, subst, arith, ℕ, zero, suc, ◌+◌, ◌-◌, ◌*◌, ◌<◌, ◌≤◌, ◌^◌, Bool, true, false, not, nat_lt, if◌then◌else◌, ℤ, pos, ◌+ℤ◌, ◌*ℤ◌, List, [], ◌∷◌, ◌++◌, length, take, drop, slice_index_or, map, Option, Some, None, unwrap_or, All, inl, inr}
 use Rattle.std.specs.List.{Any}
 use Rattle.std.specs.Ordering.{int_eq}
 use Rattle.std.specs.Int.RustNames.{unsigned_abs}
 use Rattle.std.proofs.lemmas.Int.{ints}
-use Rattle.std.proofs.lemmas.List.{take_more, append-nil, get_or-map, length-map}
+use Rattle.std.proofs.lemmas.List.{take_more, take_all, append-nil, get_or-map, length-map}
 use Rattle.std.proofs.lemmas.Bool.Decides.{nat_tests, Decides-int_eq}
 use Rattle.species_integers.proofs.Products.{mul_zero, mul_plus, mul_assoc, plus_mul}
 use Rattle.species_linear.specs.Point.{Point}
@@ -154,6 +154,14 @@ pub joined_value : (a b t : Term) (behind : List Term) (p : Point) → a.level �
 joined_value a b t behind p l e =
     omega (arith, ints, ap (λ (z : ℤ). z *ℤ p b.level) e, plus_mul a.coefficient b.coefficient (p b.level), ap (λ (k : ℕ). a.coefficient *ℤ p k) l)
 
+pub first_and_behind : (ts : List Term) (d : Term) → 0 < length ts → ts ≡ slice_index_or ts 0 d ∷ drop 1 ts
+first_and_behind [] d l = absurd (omega (arith, l))
+first_and_behind (t ∷ ts) d l = refl
+
+pub behind_terms : (m : ℕ) (ts : List Term) → HasTerms m ts → HasTerms m (drop 1 ts)
+behind_terms m [] h k d l = absurd (omega (arith, l))
+behind_terms m (t ∷ ts) h k d l = h (suc k) d (omega (arith, l))
+
 -- ---- a multiple of terms
 
 pub sum_more : (ts : List Term) (i : ℕ) (d : Term) (p : Point) → i < length ts
@@ -191,6 +199,14 @@ band_terms n m ts h = all_of (λ t. (n ≤ t.level) × (t.level < m)) (terms_fro
             → Each (λ t. (n ≤ t.level) × (t.level < m)) (if not b then u ∷ terms_from n us else terms_from n us)
         one true is rest = rest
         one false is rest = ((grind (arith, nat_tests, is), h.0), rest)
+
+-- the same of a slice that shows them
+pub in_band : (n w : ℕ) (ts us : List Term) (i : ℕ) (d : Term) → us ≡ terms_from n ts → All (λ t. t.level < n + w) ts → i < length us
+    → (n ≤ (slice_index_or us i d).level) × ((slice_index_or us i d).level < n + w)
+in_band n w ts us i d e h l = subst (λ xs. All (λ t. (n ≤ t.level) × (t.level < n + w)) xs) (sym e) (band_terms n (n + w) ts h) i d l
+
+pub small_in_band : (m n : ℕ) (ts us : List Term) (i : ℕ) (d : Term) → us ≡ terms_from n ts → HasTerms m ts → i < length us → unsigned_abs (slice_index_or us i d).coefficient ≤ m
+small_in_band m n ts us i d e h l = subst (λ xs. HasTerms m xs) (sym e) (from_terms m n ts h) i d l
 
 -- at most so many as the band has loops
 pub few_in_band : (n w : ℕ) (ts : List Term) → IsRising ts → All (λ t. t.level < n + w) ts → length (terms_from n ts) ≤ w
@@ -246,27 +262,32 @@ pub end_begins : (lower : Bool) (outer : ℕ) (bands : List BandBound) (at : For
     → f.terms ≡ terms_below outer at.terms → IsEndSoFar lower outer bands at offset 0 f
 end_begins lower outer bands at offset f c t p = omega (arith, ints, c, ap (λ us. sum_at us p) t)
 
-pub end_more : (lower : Bool) (outer : ℕ) (bands : List BandBound) (at : Form) (offset : ℤ) (i : ℕ) (d : Term) (f next : Form) (b : BandBound) → IsRising at.terms
-    → All (λ t. t.level < outer + length bands) at.terms → i < length (terms_from outer at.terms) → IsEndSoFar lower outer bands at offset i f
-    → b ≡ bound_at bands ((slice_index_or (terms_from outer at.terms) i d).level - outer)
-    → ((p : Point) → form_at next p ≡ form_at f p +ℤ (slice_index_or (terms_from outer at.terms) i d).coefficient *ℤ form_at (end_form lower (slice_index_or (terms_from outer at.terms) i d).coefficient b) p)
+pub end_more : (lower : Bool) (outer : ℕ) (bands : List BandBound) (at : Form) (offset : ℤ) (us : List Term) (i : ℕ) (d : Term) (f next : Form) (b : BandBound) → IsRising at.terms
+    → All (λ t. t.level < outer + length bands) at.terms → us ≡ terms_from outer at.terms → i < length us → IsEndSoFar lower outer bands at offset i f
+    → b ≡ bound_at bands ((slice_index_or us i d).level - outer)
+    → ((p : Point) → form_at next p ≡ form_at f p +ℤ (slice_index_or us i d).coefficient *ℤ form_at (end_form lower (slice_index_or us i d).coefficient b) p)
     → IsEndSoFar lower outer bands at offset (i + 1) next
-end_more lower outer bands at offset i d f next b rising below l so is step p =
-    let band = terms_from outer at.terms in
-    let t : Term = slice_index_or band i d in
+end_more lower outer bands at offset us i d f next b rising below e l so is step p =
+    let t : Term = slice_index_or us i d in
     let q = ends_at lower outer bands at.terms p in
+    let own : coefficient_at at.terms t.level ≡ t.coefficient = subst (λ xs. All (λ t. coefficient_at at.terms t.level ≡ t.coefficient) xs) (sym e) (own_in_band outer at.terms rising) i d l in
     let value : q t.level ≡ form_at (end_form lower t.coefficient (bound_at bands (t.level - outer))) p =
-    end_value lower outer bands at.terms t p (band_terms outer (outer + length bands) at.terms below i d l).0 (own_in_band outer at.terms rising i d l) in
+    end_value lower outer bands at.terms t p (in_band outer (length bands) at.terms us i d e below l).0 own in
     let same : form_at (end_form lower t.coefficient b) p ≡ q t.level = ap (λ x. form_at (end_form lower t.coefficient x) p) is ∙ sym value in
     let one : t.coefficient *ℤ form_at (end_form lower t.coefficient b) p ≡ t.coefficient *ℤ q t.level = ap (λ (z : ℤ). t.coefficient *ℤ z) same in
-    omega (arith, ints, so p, step p, one, sum_more band i d q l)
+    let before : sum_at (take i us) q ≡ sum_at (take i (terms_from outer at.terms)) q = ap (λ xs. sum_at (take i xs) q) e in
+    let after : sum_at (take (i + 1) us) q ≡ sum_at (take (i + 1) (terms_from outer at.terms)) q = ap (λ xs. sum_at (take (i + 1) xs) q) e in
+    omega (arith, ints, so p, step p, one, sum_more us i d q l, before, after)
 
-pub end_ends : (lower : Bool) (outer : ℕ) (bands : List BandBound) (at : Form) (offset : ℤ) (i : ℕ) (f : Form) → IsRising at.terms → IsRising f.terms
-    → take i (terms_from outer at.terms) ≡ terms_from outer at.terms → IsEndSoFar lower outer bands at offset i f → IsEndOf lower outer bands at offset f
-end_ends lower outer bands at offset i f rising own all so = record {
-  value = λ p. omega (arith, ints, so p, ap (λ us. sum_at us (ends_at lower outer bands at.terms p)) all, ends_together lower outer bands at.terms p rising);
-  rising = own;
-}
+pub end_ends : (lower : Bool) (outer : ℕ) (bands : List BandBound) (at : Form) (offset : ℤ) (us : List Term) (i : ℕ) (f : Form) → IsRising at.terms → IsRising f.terms
+    → us ≡ terms_from outer at.terms → length us ≤ i → IsEndSoFar lower outer bands at offset i f → IsEndOf lower outer bands at offset f
+end_ends lower outer bands at offset us i f rising own e l so =
+    let band = terms_from outer at.terms in
+    let all : take i band ≡ band = take_all i band (omega (arith, l, ap length e)) in
+    record {
+      value = λ p. omega (arith, ints, so p, ap (λ xs. sum_at xs (ends_at lower outer bands at.terms p)) all, ends_together lower outer bands at.terms p rising);
+      rising = own;
+    }
 
 -- ---- the least
 
@@ -293,14 +314,27 @@ least_end [] (Some k) h = absurd (omega (arith, h.0.2))
 least_end (n ∷ ns) None h = absurd (cc h)
 least_end (n ∷ ns) (Some k) h = h
 
-pub moves_more : (outer : ℕ) (bands : List BandBound) (ts : List Term) (i : ℕ) (d : Term) (b : BandBound) (m : ℕ) → i < length (terms_from outer ts)
-    → b ≡ bound_at bands ((slice_index_or (terms_from outer ts) i d).level - outer)
-    → m ≡ unsigned_abs (slice_index_or (terms_from outer ts) i d).coefficient * unsigned_abs b.step
-    → take (i + 1) (moves_of outer bands ts) ≡ take i (moves_of outer bands ts) ++ m ∷ []
-moves_more outer bands ts i d b m l is e =
-    let band = terms_from outer ts in
-    let t : Term = slice_index_or band i d in
-    let move : Term → ℕ = λ t. unsigned_abs t.coefficient * unsigned_abs (bound_at bands (t.level - outer)).step in
-    let own : move t ≡ m = ap (λ x. unsigned_abs t.coefficient * unsigned_abs x.step) (sym is) ∙ sym e in
-    let at : slice_index_or (map move band) i 0 ≡ m = get_or-map move band i d 0 l ∙ own in
-    take_more (map move band) i 0 (omega (arith, l, length-map band move)) ∙ ap (λ (n : ℕ). take i (map move band) ++ n ∷ []) at
+abbrev move_in : ℕ → List BandBound → Term → ℕ
+move_in outer bands t = unsigned_abs t.coefficient * unsigned_abs (bound_at bands (t.level - outer)).step
+
+-- one term more of the band
+pub least_more : (outer : ℕ) (bands : List BandBound) (ts us : List Term) (i : ℕ) (d : Term) (b : BandBound) (m : ℕ) (least next : Option ℕ) → us ≡ terms_from outer ts → i < length us
+    → b ≡ bound_at bands ((slice_index_or us i d).level - outer) → m ≡ unsigned_abs (slice_index_or us i d).coefficient * unsigned_abs b.step
+    → IsLeastSoFar (take i (moves_of outer bands ts)) least → ((ns : List ℕ) → IsLeastSoFar ns least → IsLeastSoFar (ns ++ m ∷ []) next)
+    → IsLeastSoFar (take (i + 1) (moves_of outer bands ts)) next
+least_more outer bands ts us i d b m least next e l is same so step =
+    let t : Term = slice_index_or us i d in
+    let move : Term → ℕ = λ t. move_in outer bands t in
+    let own : move t ≡ m = ap (λ x. unsigned_abs t.coefficient * unsigned_abs x.step) (sym is) ∙ sym same in
+    let at : slice_index_or (map move us) i 0 ≡ m = get_or-map move us i d 0 l ∙ own in
+    let more : take (i + 1) (map move us) ≡ take i (map move us) ++ m ∷ [] =
+    take_more (map move us) i 0 (omega (arith, l, length-map us move)) ∙ ap (λ (n : ℕ). take i (map move us) ++ n ∷ []) at in
+    let before : IsLeastSoFar (take i (map move us)) least = subst (λ xs. IsLeastSoFar (take i (map move xs)) least) (sym e) so in
+    subst (λ xs. IsLeastSoFar (take (i + 1) (map move xs)) next) e (subst (λ ns. IsLeastSoFar ns next) (sym more) (step (take i (map move us)) before))
+
+pub least_all : (outer : ℕ) (bands : List BandBound) (ts us : List Term) (i : ℕ) (least : Option ℕ) → us ≡ terms_from outer ts → length us ≤ i
+    → IsLeastSoFar (take i (moves_of outer bands ts)) least → IsLeastAmong (moves_of outer bands ts) (unwrap_or least 0)
+least_all outer bands ts us i least e l so =
+    let move : Term → ℕ = λ t. move_in outer bands t in
+    let all : take i (moves_of outer bands ts) ≡ moves_of outer bands ts = take_all i (moves_of outer bands ts) (omega (arith, l, ap length e, length-map (terms_from outer ts) move)) in
+    least_end (moves_of outer bands ts) least (subst (λ ns. IsLeastSoFar ns least) all so)

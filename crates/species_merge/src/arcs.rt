@@ -78,9 +78,10 @@ fn dim_of(
 {
     let offsets = offsets_of(reach);
     let fixed = terms_below(terms_of(subscript), outer + bands.len());
+    let terms = copied(alloc, fixed)?;
     let at = Form {
         constant: offsets.constant,
-        terms: copied(alloc, fixed)?,
+        terms,
     };
     let low = end_of(alloc, true, outer, bands, &at, offsets.a)?;
     let high = end_of(alloc, false, outer, bands, &at, offsets.b)?;

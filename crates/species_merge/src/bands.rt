@@ -238,12 +238,10 @@ pub(crate) fn end_of(
     ensures { IfOk result (IsEndOf lower outer bands.now at.now offset) }
 {
     let constant = offset_from(at, offset);
-    let around = terms_below(at.terms.as_slice(), outer);
-    let mut form = Form {
-        constant,
-        terms: copied(alloc, around)?,
-    };
-    for term in terms_from(at.terms.as_slice(), outer) {
+    let all = at.terms.as_slice();
+    let terms = copied(alloc, terms_below(all, outer))?;
+    let mut form = Form { constant, terms };
+    for term in terms_from(all, outer) {
         let bound = bound_for(bands, outer, *term);
         form = with_end(alloc, form, lower, *term, bound)?;
     }
@@ -259,7 +257,7 @@ fn move_of(term: Term, bound: &BandBound) -> u128
 }
 
 /// The least number so far, with one more.
-fn lesser(least: Option<u128>, other: u128) -> Option<u128>
+fn least_with(least: Option<u128>, other: u128) -> Option<u128>
     ensures { (ns : List ℕ) → IsLeastSoFar ns least → IsLeastSoFar (ns ++ other ∷ []) result }
 {
     let Some(number) = least else {
@@ -282,7 +280,7 @@ pub(crate) fn step_of(outer: usize, bands: &[BandBound], terms: &[Term]) -> u128
     let mut least = None;
     for term in terms_from(terms, outer) {
         let bound = bound_for(bands, outer, *term);
-        least = lesser(least, move_of(*term, bound));
+        least = least_with(least, move_of(*term, bound));
     }
     least.unwrap_or(0)
 }

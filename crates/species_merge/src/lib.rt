@@ -10,8 +10,6 @@ mod stretches;
 
 pub use arcs::merge;
 pub use bands::BandBound;
-pub use classes::{Members, are_alike, is_alike_one};
-pub use exact::is_exact;
 pub use hulls::hull;
 pub use stretches::covers;
 
