@@ -1,30 +1,34 @@
 -- The hull of small boxes is small, and the dimensions and the arcs one after another.
-use Rattle.std.proofs.Common.{◌≡◌, ◌≢◌, ◌∙◌, refl, ap, sym, subst, arith, ℕ, zero, suc, ◌+◌, ◌<◌, ◌≤◌, ◌^◌, Bool, true, false, if◌then◌else◌, ℤ, ◌-ℤ◌, ◌≤ℤ◌, List, [], ◌∷◌, ◌++◌, length, take, drop, slice_index_or, map, All, inl, inr}
+use Rattle.std.proofs.Common.{◌≡◌, ◌≢◌, ◌∙◌, refl, ap, sym, subst, arith, ℕ, zero, suc, ◌+◌, ◌-◌, ◌<◌, ◌≤◌, ◌^◌, Bool, true, false, not, nat_eq, nat_lt, if◌then◌else◌, ℤ, ◌-ℤ◌, ◌≤ℤ◌, List, [], ◌∷◌, ◌++◌, length, take, drop, slice_index_or, map, All, inl, inr}
 use Rattle.std.specs.List.{Any, list_any}
 use Rattle.std.specs.Int.{◌∣◌}
 use Rattle.std.specs.Int.RustNames.{unsigned_abs}
 use Rattle.std.specs.Ordering.{int_eq}
 use Rattle.std.proofs.lemmas.Int.{ints}
-use Rattle.std.proofs.lemmas.List.{take_more, take_all, drop_more, drop_all, append-nil, append_assoc, length-take-le, map_push}
+use Rattle.std.proofs.lemmas.List.{take_more, take_all, drop_more, drop_all, take_rest, get_or-drop, length-drop, append-nil, append_assoc, length-take-le, map_push}
 use Rattle.std.proofs.lemmas.List.Elements.{All-append}
 use Rattle.std.proofs.lemmas.Bool.Decides.{Decides-int_eq}
 use Rattle.std.proofs.lemmas.Nat.Gcd.{le_of_dvd}
 use Rattle.std.proofs.Math.Nat.{eq-zero_of_zero-dvd}
 use Rattle.species_affine.specs.declared.subscript.Subscript.{Subscript}
+use Rattle.species_affine.specs.declared.subscript.Subscript.TheVariants.{Affine, Other}
 use Rattle.species_arcs.specs.Pairwise.{Pairwise}
 use Rattle.species_arcs.specs.Sizes.{HasSmallSpan}
 use Rattle.species_arcs.specs.declared.places.Arc.{Arc}
 use Rattle.species_arcs.specs.declared.places.ArcDim.{ArcDim}
 use Rattle.species_arcs.specs.declared.spans.Span.{Span}
+use Rattle.species_linear.specs.declared.forms.Term.{Term}
 use Rattle.species_references.specs.declared.nest.Reference.{Reference}
 use Rattle.species_merge.specs.Arcs.{added_in, IsDimOf, AreDimsFrom, IsArcOf, AreArcsOf}
-use Rattle.species_merge.specs.Classes.{are_alike, Class, class_of, classes_behind, classes_of, no_box, box_at, column}
+use Rattle.species_merge.specs.Classes.{are_alike, Class, members, class_of, classes_behind, classes_of, no_box, column, terms_of, terms_below}
 use Rattle.species_merge.specs.Hulls.{own_stride, gaps_of, IsHullOf}
 use Rattle.species_merge.specs.Reaches.{IsSmallSpan}
-use Rattle.species_merge.specs.Sizes.{IsSmallBox, HasSmallBoxes}
+use Rattle.species_merge.specs.Sizes.{HasTerms, IsSmallSubscript, IsSmallBox, HasSmallBoxes}
 use Rattle.species_merge.specs.declared.bands.BandBound.{BandBound}
 use Rattle.species_merge.proofs.Folding.{Each, Has, all_of, each_of, has_of}
-use Rattle.species_merge.proofs.MemberLemmas.{all_one}
+use Rattle.species_merge.proofs.MemberLemmas.{all_one, all_members}
+use Rattle.species_merge.proofs.BandLemmas.{below_terms}
+use Rattle.species_merge.proofs.TermLemmas.{all_below}
 
 -- ---- small hulls
 
@@ -100,6 +104,23 @@ small_spans xs h k d l = omega (arith, (h k d l).low)
 
 -- ---- dimensions
 
+small_terms : (s : Subscript) → IsSmallSubscript s → HasTerms (2 ^ 40) (terms_of s)
+small_terms (Affine f) h = h.1
+small_terms Other h = λ k d l. absurd (omega (arith, l))
+
+pub fixed_terms : (top : ℕ) (s : Subscript) (ts : List Term) → ts ≡ terms_below top (terms_of s) → IsSmallSubscript s → HasTerms (2 ^ 40) ts
+fixed_terms top s ts e h = subst (λ us. HasTerms (2 ^ 40) us) (sym e) (below_terms (2 ^ 40) top (terms_of s) (small_terms s h))
+
+pub fixed_levels : (top : ℕ) (ts us : List Term) → us ≡ terms_below top ts → All (λ t. t.level < top) us
+fixed_levels top ts us e = subst (λ vs. All (λ t. t.level < top) vs) (sym e) (all_of (λ t. t.level < top) (terms_below top ts) (all_below top ts))
+
+not_empty : (us : List Term) → not (nat_eq (length us) 0) ≡ nat_lt 0 (length us)
+not_empty [] = refl
+not_empty (u ∷ us) = refl
+
+pub driven_is : (r : Bool) (us vs : List Term) → r ≡ nat_eq (length us) 0 → us ≡ vs → not r ≡ nat_lt 0 (length vs)
+driven_is r us vs e shown = ap not e ∙ not_empty us ∙ ap (λ ts. nat_lt 0 (length ts)) shown
+
 abbrev span : ℤ → ℤ → ℕ → Span
 span low high stride = record { low = low; high = high; stride = stride }
 
@@ -142,6 +163,13 @@ pub dims_all : (outer : ℕ) (bands : List BandBound) (rs : List Reference) (sub
     → AreDimsSoFar outer bands rs subs i dims hulls → AreDimsFrom outer bands rs 0 subs dims
 dims_all outer bands rs subs i dims hulls l so = subst (λ ss. AreDimsFrom outer bands rs 0 ss dims) (take_all i subs l) so.dims
 
+pub dims_next : (outer : ℕ) (bands : List BandBound) (rs : List Reference) (subs : List Subscript) (i : ℕ) (dims : List ArcDim) (hulls : List Span) (s : Subscript) (dim : ArcDim) (reach : Span)
+    (ds : List ArcDim) (hs : List Span) → i < length subs → s ≡ slice_index_or subs i s → AreDimsSoFar outer bands rs subs i dims hulls → IsDimOf outer bands s (column rs i) dim
+    → added_in dim ≡ reach → IsSmallBox reach → HasSmallSpan dim → ds ≡ dims ++ dim ∷ [] → hs ≡ hulls ++ reach ∷ [] → AreDimsSoFar outer bands rs subs (i + 1) ds hs
+dims_next outer bands rs subs i dims hulls s dim reach ds hs l at so is e box small d h =
+    subst (λ xs. AreDimsSoFar outer bands rs subs (i + 1) xs hs) (sym d)
+    (subst (λ ys. AreDimsSoFar outer bands rs subs (i + 1) (dims ++ dim ∷ []) ys) (sym h) (dims_more outer bands rs subs i dims hulls s dim reach l at so is e box small))
+
 -- ---- arcs
 
 behind_skip : (top : ℕ) (before : List Reference) (r : Reference) (rs : List Reference) → list_any (are_alike top r) before ≡ true
@@ -175,6 +203,17 @@ pub record AreArcsSoFar (outer : ℕ) (bands : List BandBound) (top : ℕ) (rs :
 
 pub arcs_none : (outer : ℕ) (bands : List BandBound) (top : ℕ) (rs : List Reference) → AreArcsSoFar outer bands top rs 0 []
 arcs_none outer bands top rs = record { done = []; classes = refl; arcs = tt }
+
+-- the class of reference i
+pub class_is : (top : ℕ) (rs : List Reference) (i : ℕ) (r : Reference) (c : Class) → c ≡ class_of top r (take (length rs - (i + 1)) (drop (i + 1) rs)) → c ≡ class_of top r (drop (i + 1) rs)
+class_is top rs i r c e = e ∙ ap (λ xs. class_of top r xs) (take_rest rs (i + 1))
+
+pub class_all : (P : Reference → Type 0) (top : ℕ) (rs : List Reference) (i : ℕ) (r : Reference) (c : Class) → i < length rs → r ≡ slice_index_or rs i r
+    → c ≡ class_of top r (take (length rs - (i + 1)) (drop (i + 1) rs)) → All P rs → All P (members c)
+class_all P top rs i r c l at e h =
+    let own : P r = subst P (sym at) (h i r l) in
+    let behind : All P (drop (i + 1) rs) = λ k d lt. subst P (sym (get_or-drop (i + 1) rs k d)) (h ((i + 1) + k) d (omega (arith, lt, length-drop (i + 1) rs))) in
+    subst (λ x. All P (members x)) (sym (class_is top rs i r c e)) (all_members P (are_alike top r) r (drop (i + 1) rs) own behind)
 
 -- what is left at reference i
 left_at : (top : ℕ) (rs : List Reference) (i : ℕ) (r : Reference) → i < length rs → r ≡ slice_index_or rs i r

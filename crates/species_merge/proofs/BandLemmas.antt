@@ -186,6 +186,12 @@ multiple_more first sum next c others i d added p l so step level coefficient =
     ap (λ (z : ℤ). z *ℤ p added.level) coefficient ∙ ap (λ (k : ℕ). (c *ℤ t.coefficient) *ℤ p k) level in
     omega (arith, ints, so, step, more, apart, product, one)
 
+-- a form and c times another
+pub plus_value : (f g : Form) (k c : ℤ) (ts us : List Term) (p : Point) → k ≡ f.constant +ℤ c *ℤ g.constant → us ≡ g.terms → sum_at ts p ≡ sum_at f.terms p +ℤ c *ℤ sum_at us p
+    → k +ℤ sum_at ts p ≡ form_at f p +ℤ c *ℤ form_at g p
+plus_value f g k c ts us p constant shown sums =
+    omega (arith, ints, constant, sums, ap (λ vs. c *ℤ sum_at vs p) shown, mul_plus c g.constant (sum_at g.terms p))
+
 -- ---- the terms of the band
 
 pub band_terms : (n m : ℕ) (ts : List Term) → All (λ t. t.level < m) ts → All (λ t. (n ≤ t.level) × (t.level < m)) (terms_from n ts)
