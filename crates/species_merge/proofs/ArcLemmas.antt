@@ -7,7 +7,7 @@ use Rattle.std.specs.Ordering.{int_eq}
 use Rattle.std.proofs.lemmas.Int.{ints}
 use Rattle.std.proofs.lemmas.List.{take_more, take_all, drop_more, drop_all, take_rest, get_or-drop, length-drop, append-nil, append_assoc, length-take-le, map_push}
 use Rattle.std.proofs.lemmas.List.Elements.{All-append}
-use Rattle.std.proofs.lemmas.Bool.Decides.{Decides-int_eq}
+use Rattle.std.proofs.lemmas.Bool.Decides.{nat_tests, Decides-int_eq}
 use Rattle.std.proofs.lemmas.Nat.Gcd.{le_of_dvd}
 use Rattle.std.proofs.Math.Nat.{eq-zero_of_zero-dvd}
 use Rattle.species_affine.specs.declared.subscript.Subscript.{Subscript}
@@ -116,7 +116,11 @@ fixed_levels top ts us e = subst (λ vs. All (λ t. t.level < top) vs) (sym e) (
 
 not_empty : (us : List Term) → not (nat_eq (length us) 0) ≡ nat_lt 0 (length us)
 not_empty [] = refl
-not_empty (u ∷ us) = refl
+not_empty (u ∷ us) =
+    let some : 0 < length (u ∷ us) = omega arith in
+    let other : nat_eq (length (u ∷ us)) 0 ≡ false = grind (arith, nat_tests, some) in
+    let test : nat_lt 0 (length (u ∷ us)) ≡ true = grind (arith, nat_tests, some) in
+    ap not other ∙ sym test
 
 pub driven_is : (r : Bool) (us vs : List Term) → r ≡ nat_eq (length us) 0 → us ≡ vs → not r ≡ nat_lt 0 (length vs)
 driven_is r us vs e shown = ap not e ∙ not_empty us ∙ ap (λ ts. nat_lt 0 (length ts)) shown
