@@ -1,6 +1,6 @@
 -- The hull of small boxes is small, and the dimensions and the arcs one after another.
 use Rattle.std.proofs.Common.{◌≡◌, ◌≢◌, ◌∙◌, refl, ap, sym, subst, arith, ℕ, zero, suc, ◌+◌, ◌-◌, ◌<◌, ◌≤◌, ◌^◌, Bool, true, false, not, nat_eq, nat_lt, if◌then◌else◌, ℤ, ◌-ℤ◌, ◌≤ℤ◌, List, [], ◌∷◌, ◌++◌, length, take, drop, slice_index_or, map, All, inl, inr}
-use Rattle.std.specs.List.{Any, list_any}
+use Rattle.std.specs.List.{list_any}
 use Rattle.std.specs.Int.{◌∣◌}
 use Rattle.std.specs.Int.RustNames.{unsigned_abs}
 use Rattle.std.specs.Ordering.{int_eq}
@@ -19,9 +19,9 @@ use Rattle.species_arcs.specs.declared.places.ArcDim.{ArcDim}
 use Rattle.species_arcs.specs.declared.spans.Span.{Span}
 use Rattle.species_linear.specs.declared.forms.Term.{Term}
 use Rattle.species_references.specs.declared.nest.Reference.{Reference}
-use Rattle.species_merge.specs.Arcs.{added_in, IsDimOf, AreDimsFrom, IsArcOf, AreArcsOf}
+use Rattle.species_merge.specs.Arcs.{added_in, IsDimOf, AreDimsFrom, IsArcOf}
 use Rattle.species_merge.specs.Classes.{are_alike, Class, members, class_of, classes_behind, classes_of, no_box, column, terms_of, terms_below}
-use Rattle.species_merge.specs.Hulls.{own_stride, gaps_of, IsHullOf}
+use Rattle.species_merge.specs.Hulls.{gaps_of, IsHullOf}
 use Rattle.species_merge.specs.Reaches.{IsSmallSpan}
 use Rattle.species_merge.specs.Sizes.{HasTerms, IsSmallSubscript, IsSmallBox, HasSmallBoxes}
 use Rattle.species_merge.specs.declared.bands.BandBound.{BandBound}

@@ -1,6 +1,5 @@
 -- Terms one more, and the steps and ends of a band.
-use Rattle.std.proofs.Common.{◌≡◌, ◌≢◌, ◌∙◌, refl, ap, sym, subst, arith, ℕ, zero, suc, ◌+◌, ◌-◌, ◌*◌, ◌<◌, ◌≤◌, ◌^◌, Bool, true, false, not, nat_lt, if◌then◌else◌, ℤ, pos, ◌+ℤ◌, ◌*ℤ◌, List, [], ◌∷◌, ◌++◌, length, take, drop, slice_index_or, map, Option, Some, None, unwrap_or, All, inl, inr}
-use Rattle.std.specs.List.{Any}
+use Rattle.std.proofs.Common.{◌≡◌, ◌≢◌, ◌∙◌, refl, ap, sym, subst, arith, ℕ, zero, suc, ◌+◌, ◌-◌, ◌*◌, ◌<◌, ◌≤◌, Bool, true, false, not, nat_lt, if◌then◌else◌, ℤ, pos, ◌+ℤ◌, ◌*ℤ◌, List, [], ◌∷◌, ◌++◌, length, take, drop, slice_index_or, map, Option, Some, None, unwrap_or, All, inl}
 use Rattle.std.specs.Ordering.{int_eq}
 use Rattle.std.specs.Int.RustNames.{unsigned_abs}
 use Rattle.std.proofs.lemmas.Int.{ints}
@@ -19,7 +18,7 @@ use Rattle.species_merge.specs.Bands.{unless_zero, moves_of, bound_at, end_form,
 use Rattle.species_merge.specs.Classes.{terms_below, terms_from}
 use Rattle.species_merge.specs.Sizes.{HasTerms}
 use Rattle.species_merge.proofs.ClassLemmas.{each_filter, each_more}
-use Rattle.species_merge.proofs.Folding.{Each, Has, all_of, each_of, any_of, has_of, has_front, has_end, each_join, each_parts}
+use Rattle.species_merge.proofs.Folding.{Each, all_of, each_of, any_of, has_of, has_front, has_end, each_join, each_parts}
 use Rattle.species_merge.proofs.TermLemmas.{parts_are_all, all_below, from_rising, rising_less}
 use Rattle.species_merge.specs.declared.bands.BandBound.{BandBound}
 

@@ -1,4 +1,4 @@
-use Rattle.std.proofs.Common.{◌≡◌, ◌∙◌, refl, ap, sym, subst, arith, rules, ℕ, suc, ◌+◌, ◌/◌, ◌^◌, ℤ, ◌+ℤ◌, ◌-ℤ◌, length, List, FitsSigned, to_z, of_z}
+use Rattle.std.proofs.Common.{◌≡◌, ◌∙◌, refl, ap, sym, subst, arith, rules, suc, ◌+◌, ◌/◌, ℤ, ◌+ℤ◌, ◌-ℤ◌, length, FitsSigned, to_z, of_z}
 use Rattle.std.proofs.lemmas.Int.{ints, to_z-of_z}
 use Rattle.std.specs.Int.{w128}
 use Rattle.std.specs.Int.RustNames.{unsigned_abs}

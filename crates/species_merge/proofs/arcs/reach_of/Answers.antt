@@ -1,5 +1,4 @@
-use Rattle.std.proofs.Common.{rules, ◌≡◌, subst, sym, List, All}
-use Rattle.species_arcs.specs.declared.spans.Span.{Span}
+use Rattle.std.proofs.Common.{rules, ◌≡◌, subst, sym, All}
 use Rattle.species_merge.specs.Classes.{members, column}
 use Rattle.species_merge.specs.Hulls.{IsHullOf}
 use Rattle.species_merge.specs.Reaches.{IsSmallSpan}

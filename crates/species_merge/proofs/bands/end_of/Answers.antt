@@ -1,10 +1,9 @@
-use Rattle.std.proofs.Common.{◌≡◌, ◌∙◌, ◌≤◌, ap, sym, subst, arith, rules, ℕ, ◌+◌, ◌*◌, ◌<◌, ◌^◌, ℤ, ◌+ℤ◌, length, List, FitsSigned, to_z, of_z}
+use Rattle.std.proofs.Common.{◌≡◌, ◌∙◌, ◌≤◌, ap, sym, subst, arith, rules, ◌+◌, ◌*◌, ◌<◌, ◌^◌, ℤ, length, FitsSigned, to_z, of_z}
 use Rattle.std.proofs.lemmas.Int.{ints, to_z-of_z}
 use Rattle.std.specs.Int.{w128}
 use Rattle.std.specs.Int.RustNames.{unsigned_abs}
 use Rattle.species_linear.specs.Rising.{IsRising}
 use Rattle.species_linear.specs.Value.{sum_at}
-use Rattle.species_linear.specs.declared.forms.Term.{Term}
 use Rattle.species_merge.specs.Classes.{terms_below, terms_from}
 use Rattle.species_merge.specs.Sizes.{HasTerms}
 use Rattle.species_merge.proofs.BandLemmas.{in_band, small_in_band, few_in_band, below_terms, more_terms, end_more, end_ends, IsEndSoFar}

@@ -1,4 +1,4 @@
-use Rattle.std.proofs.Common.{◌≡◌, ◌∙◌, ap, sym, subst, ℕ, ◌+◌, ◌^◌, ◌<◌, ◌+ℤ◌, ◌*ℤ◌, List, ◌++◌, All}
+use Rattle.std.proofs.Common.{◌≡◌, ◌∙◌, ap, sym, subst, ◌+◌, ◌^◌, ◌<◌, ◌+ℤ◌, ◌*ℤ◌, List, ◌++◌, All}
 use Rattle.std.specs.Int.RustNames.{unsigned_abs}
 use Rattle.species_linear.specs.Rising.{IsRising, IsRisingFrom}
 use Rattle.species_linear.specs.Value.{sum_at}
