@@ -8,3 +8,4 @@ pub mod MemberLemmas
 pub mod SmallBoxes
 pub mod BandLemmas
 pub mod ArcLemmas
+pub mod TestLemmas

@@ -121,9 +121,11 @@ fn shown_as(a: i8, b: i8, stride: u128, elements: u128, exact: bool) -> Shown {
     }
 }
 
+#[tactic(auto, using(crate::proofs::TestLemmas::two_mergeable, crate::proofs::TestLemmas::one_bound))]
 fn only_arc(alloc: Global, first: Added, second: Added) -> Result<Option<Shown>, Fail> {
     let refs = [reference(alloc, first)?, reference(alloc, second)?];
-    let arcs = merge(alloc, &refs, 0, 1, &[bound(alloc)])?;
+    let bands = [bound(alloc)];
+    let arcs = merge(alloc, &refs, 0, 1, &bands)?;
     let [arc] = arcs.as_slice() else {
         return Ok(None);
     };
