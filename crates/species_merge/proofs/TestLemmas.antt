@@ -1,5 +1,5 @@
 -- Lists of one and of two, for the tests.
-use Rattle.std.proofs.Common.{List, [], ◌∷◌, All}
+use Rattle.std.proofs.Common.{[], ◌∷◌, All}
 use Rattle.species_references.specs.declared.nest.Reference.{Reference}
 use Rattle.species_merge.specs.Sizes.{IsMergeable, IsSmallBound}
 use Rattle.species_merge.specs.declared.bands.BandBound.{BandBound}
