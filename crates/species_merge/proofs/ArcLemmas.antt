@@ -5,7 +5,7 @@ use Rattle.std.specs.Int.{◌∣◌}
 use Rattle.std.specs.Int.RustNames.{unsigned_abs}
 use Rattle.std.specs.Ordering.{int_eq}
 use Rattle.std.proofs.lemmas.Int.{ints}
-use Rattle.std.proofs.lemmas.List.{take_more, take_all, drop_more, drop_all, take_rest, get_or-drop, length-drop, append-nil, append_assoc, length-take-le, map_push}
+use Rattle.std.proofs.lemmas.List.{take_more, drop_more, take_rest, get_or-drop, length-drop, append_assoc, length-take-le, map_push}
 use Rattle.std.proofs.lemmas.List.Elements.{All-append}
 use Rattle.std.proofs.lemmas.Bool.Decides.{nat_tests, Decides-int_eq}
 use Rattle.std.proofs.lemmas.Nat.Gcd.{le_of_dvd}
@@ -146,9 +146,6 @@ pub record AreDimsSoFar (outer : ℕ) (bands : List BandBound) (rs : List Refere
   pub small : All IsSmallBox hs
   pub spans : All HasSmallSpan ds
 
-pub dims_none : (outer : ℕ) (bands : List BandBound) (rs : List Reference) (subs : List Subscript) → AreDimsSoFar outer bands rs subs 0 [] []
-dims_none outer bands rs subs = record { dims = tt; hulls = refl; small = all_of IsSmallBox [] tt; spans = all_of HasSmallSpan [] tt }
-
 pub dims_more : (outer : ℕ) (bands : List BandBound) (rs : List Reference) (subs : List Subscript) (i : ℕ) (dims : List ArcDim) (hulls : List Span) (s : Subscript) (dim : ArcDim) (reach : Span)
     → i < length subs → s ≡ slice_index_or subs i s → AreDimsSoFar outer bands rs subs i dims hulls → IsDimOf outer bands s (column rs i) dim → added_in dim ≡ reach
     → IsSmallBox reach → HasSmallSpan dim → AreDimsSoFar outer bands rs subs (i + 1) (dims ++ dim ∷ []) (hulls ++ reach ∷ [])
@@ -163,10 +160,6 @@ dims_more outer bands rs subs i dims hulls s dim reach l at so is e box small =
       spans = All-append HasSmallSpan dims (dim ∷ []) so.spans (all_one HasSmallSpan dim small);
     }
 
-pub dims_all : (outer : ℕ) (bands : List BandBound) (rs : List Reference) (subs : List Subscript) (i : ℕ) (dims : List ArcDim) (hulls : List Span) → length subs ≤ i
-    → AreDimsSoFar outer bands rs subs i dims hulls → AreDimsFrom outer bands rs 0 subs dims
-dims_all outer bands rs subs i dims hulls l so = subst (λ ss. AreDimsFrom outer bands rs 0 ss dims) (take_all i subs l) so.dims
-
 pub dims_next : (outer : ℕ) (bands : List BandBound) (rs : List Reference) (subs : List Subscript) (i : ℕ) (dims : List ArcDim) (hulls : List Span) (s : Subscript) (dim : ArcDim) (reach : Span)
     (ds : List ArcDim) (hs : List Span) → i < length subs → s ≡ slice_index_or subs i s → AreDimsSoFar outer bands rs subs i dims hulls → IsDimOf outer bands s (column rs i) dim
     → added_in dim ≡ reach → IsSmallBox reach → HasSmallSpan dim → ds ≡ dims ++ dim ∷ [] → hs ≡ hulls ++ reach ∷ [] → AreDimsSoFar outer bands rs subs (i + 1) ds hs
@@ -175,14 +168,6 @@ dims_next outer bands rs subs i dims hulls s dim reach ds hs l at so is e box sm
     (subst (λ ys. AreDimsSoFar outer bands rs subs (i + 1) (dims ++ dim ∷ []) ys) (sym h) (dims_more outer bands rs subs i dims hulls s dim reach l at so is e box small))
 
 -- ---- arcs
-
-behind_skip : (top : ℕ) (before : List Reference) (r : Reference) (rs : List Reference) → list_any (are_alike top r) before ≡ true
-    → classes_behind top before (r ∷ rs) ≡ classes_behind top (before ++ r ∷ []) rs
-behind_skip top before r rs is = go (list_any (are_alike top r) before) is
-  where
-    go : (t : Bool) → t ≡ true → (if t then classes_behind top (before ++ r ∷ []) rs else class_of top r rs ∷ classes_behind top (before ++ r ∷ []) rs) ≡ classes_behind top (before ++ r ∷ []) rs
-    go true e = refl
-    go false e = absurd (cc e)
 
 behind_new : (top : ℕ) (before : List Reference) (r : Reference) (rs : List Reference) → list_any (are_alike top r) before ≡ false
     → classes_behind top before (r ∷ rs) ≡ class_of top r rs ∷ classes_behind top (before ++ r ∷ []) rs
@@ -205,9 +190,6 @@ pub record AreArcsSoFar (outer : ℕ) (bands : List BandBound) (top : ℕ) (rs :
   pub classes : classes_of top rs ≡ done ++ classes_behind top (take i rs) (drop i rs)
   pub arcs : Pairwise (IsArcOf outer bands) done found
 
-pub arcs_none : (outer : ℕ) (bands : List BandBound) (top : ℕ) (rs : List Reference) → AreArcsSoFar outer bands top rs 0 []
-arcs_none outer bands top rs = record { done = []; classes = refl; arcs = tt }
-
 -- the class of reference i
 pub class_is : (top : ℕ) (rs : List Reference) (i : ℕ) (r : Reference) (c : Class) → c ≡ class_of top r (take (length rs - (i + 1)) (drop (i + 1) rs)) → c ≡ class_of top r (drop (i + 1) rs)
 class_is top rs i r c e = e ∙ ap (λ xs. class_of top r xs) (take_rest rs (i + 1))
@@ -229,14 +211,6 @@ before_more : (top : ℕ) (rs : List Reference) (i : ℕ) (r : Reference) → i 
 before_more top rs i r l at =
     ap (λ xs. classes_behind top xs (drop (i + 1) rs)) (sym (take_more rs i r l ∙ ap (λ x. take i rs ++ x ∷ []) (sym at)))
 
-pub arcs_skip : (outer : ℕ) (bands : List BandBound) (top : ℕ) (rs : List Reference) (i : ℕ) (arcs : List Arc) (r : Reference) → i < length rs → r ≡ slice_index_or rs i r
-    → list_any (are_alike top r) (take i rs) ≡ true → AreArcsSoFar outer bands top rs i arcs → AreArcsSoFar outer bands top rs (i + 1) arcs
-arcs_skip outer bands top rs i arcs r l at is so = record {
-  done = so.done;
-  classes = so.classes ∙ ap (λ cs. so.done ++ cs) (left_at top rs i r l at ∙ behind_skip top (take i rs) r (drop (i + 1) rs) is ∙ before_more top rs i r l at);
-  arcs = so.arcs;
-}
-
 pub arcs_more : (outer : ℕ) (bands : List BandBound) (top : ℕ) (rs : List Reference) (i : ℕ) (arcs : List Arc) (r : Reference) (arc : Arc) → i < length rs → r ≡ slice_index_or rs i r
     → list_any (are_alike top r) (take i rs) ≡ false → IsArcOf outer bands (class_of top r (drop (i + 1) rs)) arc → AreArcsSoFar outer bands top rs i arcs
     → AreArcsSoFar outer bands top rs (i + 1) (arcs ++ arc ∷ [])
@@ -249,9 +223,3 @@ arcs_more outer bands top rs i arcs r arc l at is own so =
       classes = so.classes ∙ ap (λ cs. so.done ++ cs) left ∙ sym (append_assoc so.done (c ∷ []) rest);
       arcs = pairwise_push (IsArcOf outer bands) so.done arcs c arc so.arcs own;
     }
-
-pub arcs_all : (outer : ℕ) (bands : List BandBound) (top : ℕ) (rs : List Reference) (i : ℕ) (arcs : List Arc) → length rs ≤ i → AreArcsSoFar outer bands top rs i arcs
-    → Pairwise (IsArcOf outer bands) (classes_of top rs) arcs
-arcs_all outer bands top rs i arcs l so =
-    let none : classes_behind top (take i rs) (drop i rs) ≡ [] = ap (λ xs. classes_behind top (take i rs) xs) (drop_all i rs l) in
-    subst (λ cs. Pairwise (IsArcOf outer bands) cs arcs) (sym (so.classes ∙ ap (λ cs. so.done ++ cs) none ∙ append-nil so.done)) so.arcs

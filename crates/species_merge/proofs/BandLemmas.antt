@@ -1,9 +1,9 @@
 -- Terms one more, and the steps and ends of a band.
-use Rattle.std.proofs.Common.{◌≡◌, ◌≢◌, ◌∙◌, refl, ap, sym, subst, arith, ℕ, zero, suc, ◌+◌, ◌-◌, ◌*◌, ◌<◌, ◌≤◌, Bool, true, false, not, nat_lt, if◌then◌else◌, ℤ, pos, ◌+ℤ◌, ◌*ℤ◌, List, [], ◌∷◌, ◌++◌, length, take, drop, slice_index_or, map, Option, Some, None, unwrap_or, All, inl}
+use Rattle.std.proofs.Common.{◌≡◌, ◌≢◌, ◌∙◌, refl, ap, sym, subst, arith, ℕ, zero, suc, ◌+◌, ◌-◌, ◌*◌, ◌<◌, ◌≤◌, Bool, true, false, not, nat_lt, if◌then◌else◌, ℤ, pos, ◌+ℤ◌, ◌*ℤ◌, List, [], ◌∷◌, ◌++◌, length, take, drop, slice_index_or, map, Option, Some, None, unwrap_or, All}
 use Rattle.std.specs.Ordering.{int_eq}
 use Rattle.std.specs.Int.RustNames.{unsigned_abs}
 use Rattle.std.proofs.lemmas.Int.{ints}
-use Rattle.std.proofs.lemmas.List.{take_more, take_all, append-nil, get_or-map, length-map}
+use Rattle.std.proofs.lemmas.List.{take_more, take_all, get_or-map, length-map}
 use Rattle.std.proofs.lemmas.Bool.Decides.{nat_tests, Decides-int_eq}
 use Rattle.species_integers.proofs.Products.{mul_zero, mul_plus, mul_assoc, plus_mul}
 use Rattle.species_linear.specs.Point.{Point}
@@ -18,7 +18,7 @@ use Rattle.species_merge.specs.Bands.{unless_zero, moves_of, bound_at, end_form,
 use Rattle.species_merge.specs.Classes.{terms_below, terms_from}
 use Rattle.species_merge.specs.Sizes.{HasTerms}
 use Rattle.species_merge.proofs.ClassLemmas.{each_filter, each_more}
-use Rattle.species_merge.proofs.Folding.{Each, all_of, each_of, any_of, has_of, has_front, has_end, each_join, each_parts}
+use Rattle.species_merge.proofs.Folding.{Each, all_of, each_of, any_of, has_end, each_join, each_parts}
 use Rattle.species_merge.proofs.TermLemmas.{parts_are_all, all_below, from_rising, rising_less}
 use Rattle.species_merge.specs.declared.bands.BandBound.{BandBound}
 
@@ -51,20 +51,6 @@ rising_index k (t ∷ ts) zero d rising l = omega (arith, rising.0)
 rising_index k (t ∷ ts) (suc i) d rising l = omega (arith, rising.0, rising_index (t.level + 1) ts i d rising.2 (omega (arith, l)))
 
 -- ---- a term, unless its coefficient is 0
-
-pub put_none : (ts : List Term) (t : Term) → t.coefficient ≡ pos 0 → ts ≡ ts ++ unless_zero t
-put_none ts t e = go (int_eq t.coefficient (pos 0)) refl
-  where
-    go : (b : Bool) → int_eq t.coefficient (pos 0) ≡ b → ts ≡ ts ++ (if b then [] else t ∷ [])
-    go true is = sym (append-nil ts)
-    go false is = absurd (cc ((Decides-int_eq t.coefficient (pos 0)).1 e, is))
-
-pub put_some : (ts us : List Term) (t : Term) → t.coefficient ≢ pos 0 → us ≡ ts ++ t ∷ [] → us ≡ ts ++ unless_zero t
-put_some ts us t n e = go (int_eq t.coefficient (pos 0)) refl
-  where
-    go : (b : Bool) → int_eq t.coefficient (pos 0) ≡ b → us ≡ ts ++ (if b then [] else t ∷ [])
-    go true is = absurd (n ((Decides-int_eq t.coefficient (pos 0)).0 is))
-    go false is = e
 
 unless_zero_value : (t : Term) (p : Point) → sum_at (unless_zero t) p ≡ t.coefficient *ℤ p t.level
 unless_zero_value t p = go (int_eq t.coefficient (pos 0)) refl
@@ -263,10 +249,6 @@ abbrev pub IsEndSoFar : Bool → ℕ → List BandBound → Form → ℤ → ℕ
 IsEndSoFar lower outer bands at offset i f = (p : Point) → form_at f p
     ≡ (at.constant +ℤ offset) +ℤ (sum_at (terms_below outer at.terms) p +ℤ sum_at (take i (terms_from outer at.terms)) (ends_at lower outer bands at.terms p))
 
-pub end_begins : (lower : Bool) (outer : ℕ) (bands : List BandBound) (at : Form) (offset : ℤ) (f : Form) → f.constant ≡ at.constant +ℤ offset
-    → f.terms ≡ terms_below outer at.terms → IsEndSoFar lower outer bands at offset 0 f
-end_begins lower outer bands at offset f c t p = omega (arith, ints, c, ap (λ us. sum_at us p) t)
-
 pub end_more : (lower : Bool) (outer : ℕ) (bands : List BandBound) (at : Form) (offset : ℤ) (us : List Term) (i : ℕ) (d : Term) (f next : Form) (b : BandBound) → IsRising at.terms
     → All (λ t. t.level < outer + length bands) at.terms → us ≡ terms_from outer at.terms → i < length us → IsEndSoFar lower outer bands at offset i f
     → b ≡ bound_at bands ((slice_index_or us i d).level - outer)
@@ -295,16 +277,6 @@ end_ends lower outer bands at offset us i f rising own e l so =
     }
 
 -- ---- the least
-
-pub least_first : (ns : List ℕ) (o : ℕ) → IsLeastSoFar ns None → IsLeastSoFar (ns ++ o ∷ []) (Some o)
-least_first [] o e = (any_of (λ k. k ≡ o) (o ∷ []) (inl refl), all_of (λ k. o ≤ k) (o ∷ []) (omega arith, tt))
-least_first (n ∷ ns) o e = absurd (cc e)
-
-pub least_kept : (ns : List ℕ) (m o : ℕ) → m ≤ o → IsLeastSoFar ns (Some m) → IsLeastSoFar (ns ++ o ∷ []) (Some m)
-least_kept ns m o le h = (
-  any_of (λ k. k ≡ m) (ns ++ o ∷ []) (has_front (λ k. k ≡ m) ns o (has_of (λ k. k ≡ m) ns h.0)),
-  all_of (λ k. m ≤ k) (ns ++ o ∷ []) (each_join (λ k. m ≤ k) ns (o ∷ []) (each_of (λ k. m ≤ k) ns h.1) (le, tt)),
-)
 
 pub least_new : (ns : List ℕ) (m o : ℕ) → o ≤ m → IsLeastSoFar ns (Some m) → IsLeastSoFar (ns ++ o ∷ []) (Some o)
 least_new ns m o le h = (
