@@ -1,5 +1,5 @@
 -- The hull of spans, found span by span.
-use Rattle.std.proofs.Common.{◌≡◌, ◌≢◌, refl, sym, subst, arith, ℕ, zero, suc, List, [], ◌∷◌, ◌++◌, All, ℤ, ◌-ℤ◌, ◌≤ℤ◌, ◌⊎◌, inl, inr, Bool, true, false, if◌then◌else◌}
+use Rattle.std.proofs.Common.{◌≡◌, ◌≢◌, refl, sym, subst, arith, ℕ, zero, suc, ◌<◌, List, [], ◌∷◌, ◌++◌, length, slice_index_or, All, ℤ, ◌-ℤ◌, ◌≤ℤ◌, ◌⊎◌, inl, inr, Bool, true, false, if◌then◌else◌}
 use Rattle.std.specs.List.{Any}
 use Rattle.std.specs.Int.{◌∣◌}
 use Rattle.std.specs.Int.RustNames.{unsigned_abs}
@@ -34,6 +34,22 @@ pub any_of : {X : Type 0} (P : X → Type 0) (xs : List X) → Has P xs → Any 
 any_of P [] h = absurd h
 any_of P (x ∷ xs) (inl h) = (0, x, omega arith, refl, h)
 any_of P (x ∷ xs) (inr h) = let rest = any_of P xs h in (suc rest.0, rest.1, omega (arith, rest.2), rest.3, rest.4)
+
+has_at : {X : Type 0} (P : X → Type 0) (xs : List X) (k : ℕ) (y : X) → k < length xs → slice_index_or xs k y ≡ y → P y → Has P xs
+has_at P [] k y l e p = absurd (omega (arith, l))
+has_at P (x ∷ xs) zero y l e p = inl (subst P (sym e) p)
+has_at P (x ∷ xs) (suc k) y l e p = inr (has_at P xs k y (omega (arith, l)) e p)
+
+pub has_of : {X : Type 0} (P : X → Type 0) (xs : List X) → Any P xs → Has P xs
+has_of P xs h = has_at P xs h.0 h.1 h.2 h.3 h.4
+
+pub each_join : {X : Type 0} (P : X → Type 0) (xs ys : List X) → Each P xs → Each P ys → Each P (xs ++ ys)
+each_join P [] ys h k = k
+each_join P (x ∷ xs) ys h k = (h.0, each_join P xs ys h.1 k)
+
+pub each_parts : {X : Type 0} (P : X → Type 0) (xs ys : List X) → Each P (xs ++ ys) → Each P xs × Each P ys
+each_parts P [] ys h = (tt, h)
+each_parts P (x ∷ xs) ys h = let rest = each_parts P xs ys h.1 in ((h.0, rest.0), rest.1)
 
 -- ---- gaps
 
@@ -75,12 +91,12 @@ above_end : (a : ℤ) (xs : List Span) (x : Span) → Above a xs → x.high ≤�
 above_end a [] x h k = (k, tt)
 above_end a (y ∷ xs) x h k = (h.0, above_end a xs x h.1 k)
 
-has_front : {X : Type 0} (P : X → Type 0) (xs : List X) (x : X) → Has P xs → Has P (xs ++ x ∷ [])
+pub has_front : {X : Type 0} (P : X → Type 0) (xs : List X) (x : X) → Has P xs → Has P (xs ++ x ∷ [])
 has_front P [] x h = absurd h
 has_front P (y ∷ xs) x (inl h) = inl h
 has_front P (y ∷ xs) x (inr h) = inr (has_front P xs x h)
 
-has_end : {X : Type 0} (P : X → Type 0) (xs : List X) (x : X) → P x → Has P (xs ++ x ∷ [])
+pub has_end : {X : Type 0} (P : X → Type 0) (xs : List X) (x : X) → P x → Has P (xs ++ x ∷ [])
 has_end P [] x h = inl h
 has_end P (y ∷ xs) x h = inr (has_end P xs x h)
 

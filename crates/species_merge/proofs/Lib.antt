@@ -6,3 +6,6 @@ pub mod TermLemmas
 pub mod ClassLemmas
 pub mod MemberLemmas
 pub mod SmallBoxes
+pub mod BandLemmas
+pub mod ArcLemmas
+pub mod TestLemmas

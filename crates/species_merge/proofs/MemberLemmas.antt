@@ -28,7 +28,7 @@ kept_without test first xs i d l is =
     none_more [] = refl
     none_more (y ∷ ys) = ap (λ zs. y ∷ zs) (none_more ys)
 
-all_one : {X : Type 0} (P : X → Type 0) (x : X) → P x → All P (x ∷ [])
+pub all_one : {X : Type 0} (P : X → Type 0) (x : X) → P x → All P (x ∷ [])
 all_one P x p zero d l = p
 all_one P x p (suc k) d l = absurd (omega (arith, l))
 
@@ -107,3 +107,6 @@ all_not_any P xs h (k, y, l, e, p) = h k y l (subst P (sym e) p)
 -- what holds of all references holds of all members
 pub all_members : {X : Type 0} (P : X → Type 0) (test : X → Bool) (first : X) (xs : List X) → P first → All P xs → All P (first ∷ filter test xs)
 all_members P test first xs p h = all_of P (first ∷ filter test xs) (p, each_filter P test xs (each_of P xs h))
+
+pub all_two : {X : Type 0} (P : X → Type 0) (x y : X) → P x → P y → All P (x ∷ y ∷ [])
+all_two P x y p q = all_of P (x ∷ y ∷ []) (p, (q, tt))

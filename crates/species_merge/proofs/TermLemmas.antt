@@ -68,7 +68,7 @@ all_below n (t ∷ ts) = go (nat_lt t.level n) refl (all_below n ts)
     go false is rest = rest
 
 -- the others rise as well
-rising_less : (j k : ℕ) (ts : List Term) → j ≤ k → IsRisingFrom k ts → IsRisingFrom j ts
+pub rising_less : (j k : ℕ) (ts : List Term) → j ≤ k → IsRisingFrom k ts → IsRisingFrom j ts
 rising_less j k [] le h = tt
 rising_less j k (t ∷ ts) le h = (omega (arith, le, h.0), h.1, h.2)
 

@@ -1,8 +1,25 @@
--- References whose boxes are small enough for machine words.
-use Rattle.std.specs.Prelude.{◌<◌, ◌≤◌, ◌^◌, ◌≤ℤ◌, All}
+-- References and bounds whose numbers are small enough for machine words.
+use Rattle.std.specs.Prelude.{ℕ, ◌<◌, ◌≤◌, ◌^◌, ◌≤ℤ◌, List, All}
 use Rattle.std.specs.Int.RustNames.{unsigned_abs}
+use Rattle.species_affine.specs.declared.subscript.Subscript.{Subscript}
+use Rattle.species_affine.specs.declared.subscript.Subscript.TheVariants.{Affine, Other}
 use Rattle.species_arcs.specs.declared.spans.Span.{Span}
+use Rattle.species_linear.specs.declared.forms.Form.{Form}
+use Rattle.species_linear.specs.declared.forms.Term.{Term}
 use Rattle.species_references.specs.declared.nest.Reference.{Reference}
+use Rattle.species_merge.specs.declared.bands.BandBound.{BandBound}
+
+-- Each coefficient is at most so large in size.
+abbrev pub HasTerms : ℕ → List Term → Type 0
+HasTerms m ts = All (λ t. unsigned_abs t.coefficient ≤ m) ts
+
+-- Each number of the form is.
+abbrev pub HasNumbers : ℕ → Form → Type 0
+HasNumbers m f = (unsigned_abs f.constant ≤ m) × HasTerms m f.terms
+
+abbrev pub IsSmallSubscript : Subscript → Type 0
+IsSmallSubscript (Affine f) = HasNumbers (2 ^ 40) f
+IsSmallSubscript Other = Unit {0}
 
 -- The least number of the box is not past the greatest, both are below 2^69 in size, and the stride is from 1 to 2^70.
 pub record IsSmallBox (x : Span) : Type 0 where
@@ -14,3 +31,13 @@ pub record IsSmallBox (x : Span) : Type 0 where
 -- So is each box of the reference.
 abbrev pub HasSmallBoxes : Reference → Type 0
 HasSmallBoxes r = All IsSmallBox r.boxes
+
+-- And the numbers of its subscripts are at most 2^40 in size.
+pub record IsMergeable (r : Reference) : Type 0 where
+  pub subs : All IsSmallSubscript r.subs
+  pub boxes : HasSmallBoxes r
+
+-- So are those of the ends of a loop of the band.
+pub record IsSmallBound (b : BandBound) : Type 0 where
+  pub least : HasNumbers (2 ^ 40) b.least
+  pub greatest : HasNumbers (2 ^ 40) b.greatest

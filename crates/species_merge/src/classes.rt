@@ -110,7 +110,7 @@ fn same_direction(a: Dir, b: Dir) -> bool
 
 /// Whether two references are of one class. The iterators below level `top` are those of the loops around
 /// the nest and of its band.
-pub fn are_alike(a: &Reference, b: &Reference, top: usize) -> bool
+pub(crate) fn are_alike(a: &Reference, b: &Reference, top: usize) -> bool
     ensures { result ≡ are_alike top a.now b.now }
 {
     a.array == b.array
@@ -119,7 +119,7 @@ pub fn are_alike(a: &Reference, b: &Reference, top: usize) -> bool
 }
 
 /// Whether a reference is of the class of one of these.
-pub fn is_alike_one(a: &Reference, before: &[Reference], top: usize) -> bool
+pub(crate) fn is_alike_one(a: &Reference, before: &[Reference], top: usize) -> bool
     ensures { result ≡ list_any (are_alike top a.now) before.now }
 {
     for b in before {
@@ -132,7 +132,7 @@ pub fn is_alike_one(a: &Reference, before: &[Reference], top: usize) -> bool
 
 /// A class of references.
 #[derive(Drop)]
-pub struct Members<'a> {
+pub(crate) struct Members<'a> {
     first: &'a Reference,
     /// The references behind the first, among them the others of the class.
     behind: &'a [Reference],
@@ -149,20 +149,20 @@ impl<'a> Model for Members<'a> {
 
 impl<'a> Members<'a> {
     /// The class of a reference, where these stand behind it.
-    pub fn new(first: &'a Reference, behind: &'a [Reference], top: usize) -> Members<'a>
+    pub(crate) fn new(first: &'a Reference, behind: &'a [Reference], top: usize) -> Members<'a>
         ensures { result ≡ class_of top first.now behind.now }
     {
         Members { first, behind, top }
     }
 
-    pub fn first(&self) -> &'a Reference
+    pub(crate) fn first(&self) -> &'a Reference
         ensures { result.now ≡ self.now.first }
     {
         self.first
     }
 
     /// The boxes in a dimension.
-    pub fn column(&self, alloc: Global, number: usize) -> Result<Vec<Span>, OutOfMemory>
+    pub(crate) fn column(&self, alloc: Global, number: usize) -> Result<Vec<Span>, OutOfMemory>
         ensures { IfOk result (λ spans. spans.items ≡ column (members self.now) number) }
     {
         column_of(alloc, self.first, self.behind, self.top, number)

@@ -168,7 +168,7 @@ fn fills(alloc: Global, class: &Members<'_>, hulls: &[Span]) -> Result<bool, Out
 /// Whether all of a class are evaluated at affine places in each turn of the loops from level `top` on,
 /// which have constant bounds, and their boxes fill these hulls: one has all the hulls as its boxes, or
 /// the boxes differ along one dimension alone and cover the hull there.
-pub fn is_exact(
+pub(crate) fn is_exact(
     alloc: Global,
     class: &Members<'_>,
     top: usize,

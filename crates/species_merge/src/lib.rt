@@ -1,14 +1,15 @@
-//! Merging the references of a loop nest: which form a class, the hull of what they touch in a dimension,
-//! and when a class fills its hulls.
+//! Merging the references of a loop nest into arcs.
 #![tactic(auto)]
 
+mod arcs;
+mod bands;
 mod classes;
 mod exact;
 mod hulls;
 mod stretches;
 
-pub use classes::{Members, are_alike, is_alike_one};
-pub use exact::is_exact;
+pub use arcs::merge;
+pub use bands::BandBound;
 pub use hulls::hull;
 pub use stretches::covers;
 
