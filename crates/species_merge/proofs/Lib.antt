@@ -6,3 +6,8 @@ pub mod TermLemmas
 pub mod ClassLemmas
 pub mod MemberLemmas
 pub mod SmallBoxes
+pub mod SetLaws
+pub mod ReachLaws
+pub mod FreeLaws
+pub mod ExactLaws
+pub mod SettledLaws
