@@ -209,7 +209,8 @@ some_member outer bands c a ws dims wide (inr (k, fill)) h =
 
     first_in : (j : ℕ) → IsOther j → IsInSpan (box_in j c.first) (at ws j)
     first_in j o =
-        let hull = hull_at outer bands (members c) 0 j c.first.subs a.dims dims (omega (arith, o.0, length_map added_in a.dims)) in
+        let first : 0 + j ≡ j = omega arith in
+        let hull = subst (λ n. IsHullOf (column (members c) n) (box_at hulls j)) first (hull_at outer bands (members c) 0 j c.first.subs a.dims dims (omega (arith, o.0, length_map added_in a.dims))) in
         let same = each_map (λ y. y ≡ box_in j c.first) (box_in j) (members c) (each_of (λ r. box_in j r ≡ box_in j c.first) (members c) (fill.others j o.0 o.1)) in
         hull_within (column (members c) j) (box_at hulls j) (box_in j c.first) (at ws j) hull same (number_in j o.0)
 

@@ -63,14 +63,15 @@ no_level (u ∷ us) l h = let parts = both_false (is_at_level l u) (names_level 
 
 apart_levels : (ts us : List Term) (l : ℕ) → list_any (λ t. names_level us t.level) ts ≡ false → (coefficient_at ts l ≡ pos 0) ⊎ (coefficient_at us l ≡ pos 0)
 apart_levels [] us l h = inl refl
-apart_levels (t ∷ ts) us l h = go (nat_eq t.level l) refl
+apart_levels (t ∷ ts) us l h = go (nat_eq t.level l) refl (apart_levels ts us l parts.1)
   where
     parts : (names_level us t.level ≡ false) × (list_any (λ t. names_level us t.level) ts ≡ false)
     parts = both_false (names_level us t.level) (list_any (λ t. names_level us t.level) ts) h
 
-    go : (b : Bool) → nat_eq t.level l ≡ b → ((if b then t.coefficient else coefficient_at ts l) ≡ pos 0) ⊎ (coefficient_at us l ≡ pos 0)
-    go true is = inr (no_level us l (subst (λ n. names_level us n ≡ false) (eqb-true t.level l is) parts.0))
-    go false is = apart_levels ts us l parts.1
+    go : (b : Bool) → nat_eq t.level l ≡ b → (coefficient_at ts l ≡ pos 0) ⊎ (coefficient_at us l ≡ pos 0)
+        → ((if b then t.coefficient else coefficient_at ts l) ≡ pos 0) ⊎ (coefficient_at us l ≡ pos 0)
+    go true is rest = inr (no_level us l (subst (λ n. names_level us n ≡ false) (eqb-true t.level l is) parts.0))
+    go false is rest = rest
 
 -- ---- coefficients of forms
 
@@ -78,9 +79,9 @@ abbrev at : List ℤ → ℕ → ℤ
 at cs k = slice_index_or cs k (pos 0)
 
 at_drop : (n i : ℕ) (cs : List ℤ) → at (drop n cs) i ≡ at cs (n + i)
-at_drop zero i cs = refl
+at_drop zero i cs = let same : i ≡ 0 + i = omega arith in ap (at cs) same
 at_drop (suc n) i [] = refl
-at_drop (suc n) i (c ∷ cs) = at_drop n i cs
+at_drop (suc n) i (c ∷ cs) = let same : suc (n + i) ≡ suc n + i = omega arith in at_drop n i cs ∙ ap (at (c ∷ cs)) same
 
 alone_by : (cs : List ℤ) → ((i j : ℕ) → i < j → (at cs i ≡ pos 0) ⊎ (at cs j ≡ pos 0)) → IsAlone cs
 alone_by [] h = tt

@@ -227,7 +227,8 @@ product_single c r whole g = go (int_eq r.low r.high) refl g
 
     same : unit_of r ≡ 0 → r.low ≡ r.high
     same e = let q = quotient (unit_of r) (unsigned_abs (r.high -ℤ r.low)) whole.settled.whole in
-        let far : unsigned_abs (r.high -ℤ r.low) ≡ 0 = q.1 ∙ rw e (omega arith) in grind (arith, ints, far)
+        let none : q.0 * 0 ≡ 0 = omega arith in
+        let far : unsigned_abs (r.high -ℤ r.low) ≡ 0 = q.1 ∙ ap (λ (z : ℕ). q.0 * z) e ∙ none in grind (arith, ints, far)
 
     go : (t : Bool) → int_eq r.low r.high ≡ t → (if t then 0 else unsigned_abs c * unit_of r) ≡ 0 → least_product c r ≡ greatest_product c r
     go true is e = both c ((Decides-int_eq r.low r.high).0 is)

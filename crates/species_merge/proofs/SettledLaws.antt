@@ -5,7 +5,7 @@ use Rattle.std.specs.Int.RustNames.{unsigned_abs, int_le}
 use Rattle.std.proofs.lemmas.Int.{ints}
 use Rattle.std.proofs.Math.Nat.{dvd-mul_left, div-add-mod', mod-eq-zero_of_dvd}
 use Rattle.species_ast.specs.declared.tree.Expr.{Expr}
-use Rattle.species_ast.specs.declared.tree.Loop.{roll-Loop}
+use Rattle.species_ast.specs.declared.tree.Loop.{Loop, out-Loop, roll-Loop}
 use Rattle.species_ast.specs.declared.tree.Stmt.{Stmt}
 use Rattle.species_ast.specs.declared.tree.Stmt.TheVariants as stmt
 use Rattle.species_ast.specs.declared.tree.Stmt.TheOpen.{Loop-F}
@@ -17,7 +17,7 @@ use Rattle.species_ast.proofs.Folds.{fold_stmt-Assign, fold_stmt-AddTo, fold_stm
 use Rattle.species_ast.proofs.Induction.{Each, each_all, expr_ind, stmt_ind}
 use Rattle.species_ast.proofs.Paras.{para_expr-Literal, para_expr-Iter, para_expr-Local, para_expr-Unary, para_expr-Binary, para_expr-And, para_expr-Or, para_expr-Cond, para_expr-Cast}
 use Rattle.species_ast.proofs.ReferenceLaws.{elements_of-Elem}
-use Rattle.species_occurrences.specs.Iterators.{MayTake, IsCounted}
+use Rattle.species_occurrences.specs.Iterators.{MayTake, IsCounted, ranges_of}
 use Rattle.species_references.specs.Boxes.{has_constant_bounds, unit_of}
 use Rattle.species_references.proofs.TurnLaws.{each_to_all}
 use Rattle.species_merge.proofs.Divides.{dvd_at, dvd_turned, dvd_ways}
@@ -113,20 +113,20 @@ between_settles path step first last = go (is_constant first) (is_constant last)
 range_settles : {X Y : Type 0} (path : List Range) (l : Loop-F X Y) → Settles (range_of path l)
 range_settles path l = between_settles path l.step (bound_form l.start) (last_form l.test (bound_form l.limit))
 
--- ---- references: in the loops around their statement, and more that settle
+-- ---- references: in the loops around their statement, and more
 
 both : {X : Type 0} (P : X → Type 0) (xs ys : List X) → Each P xs → Each P ys → Each P (xs ++ ys)
 both P [] ys h k = k
 both P (x ∷ xs) ys h k = (h.0, both P xs ys h.1 k)
 
-abbrev Inside : List Range → Reference → Type 0
-Inside path q = (more : List Range) × (q.path ≡ path ++ more) × Each Settles more
+abbrev pub Inside : List Range → Reference → Type 0
+Inside path q = (inner : List Loop) × (q.path ≡ ranges_of path inner)
 
 abbrev AreInside : (Where → List Reference) → Type 0
 AreInside k = (g : Where) → Each (Inside g.path) (k g)
 
 own : (g : Where) (n : ℕ) (d : Direction) (a : ℕ) (subs : List (Option Form)) → Inside g.path (reference g n d a subs)
-own g n d a subs = ([], sym (append-nil g.path), tt)
+own g n d a subs = ([], refl)
 
 -- expressions
 abbrev Keeps : Elements → Type 0
@@ -169,11 +169,12 @@ subscripts_inside : (subs : List Expr) → AreInside (λ g. (subscripts subs).re
 subscripts_inside subs g = keeps_all subs (each_all (λ x. Keeps (elements_of x)) expr_keeps subs) g 0
 
 last_inside : (subs : List Expr) (x : Expr) (d : Direction) (a : ℕ) → AreInside (λ g. value_references subs x g ++ target_reference subs d a g ∷ [])
-last_inside subs x d a g = both (Inside g.path) (value_references subs x g) (target_reference subs d a g ∷ []) (expr_keeps x g _) (own g _ d a _, tt)
+last_inside subs x d a g =
+    both (Inside g.path) (value_references subs x g) (target_reference subs d a g ∷ []) (expr_keeps x g (suc (subscripts subs).count)) (own g (subscripts subs).count d a (map form_of subs), tt)
 
 addition_inside : (t : Bool) (a : ℕ) (subs : List Expr) (x : Expr) → AreInside (addition_references t a subs x)
 addition_inside true a subs x g = last_inside subs x Adds a g
-addition_inside false a subs x g = (own g _ Reads a _, last_inside subs x Writes a g)
+addition_inside false a subs x g = (own g (subscripts subs).count Reads a (map form_of subs), last_inside subs x Writes a g)
 
 init_inside : (init : Option Expr) → AreInside (init_references init)
 init_inside (Some x) g = expr_keeps x g 0
@@ -188,20 +189,18 @@ list_inside adds (x ∷ xs) h g k band =
     both (Inside g.path) (stmt_references adds x (placed g k) band) (list_references (map (stmt_references adds) xs) g (suc k) band) (h.0 (placed g k) band) (list_inside adds xs h.1 g (suc k) band)
 
 -- in a loop more
-within : (path : List Range) (r : Range) (q : Reference) → Settles r → Inside (path ++ r ∷ []) q → Inside path q
-within path r q s h = (r ∷ h.0, h.1 ∙ append_assoc path (r ∷ []) h.0, (s, h.2))
+each_within : (path : List Range) (l : Loop) (qs : List Reference) → Each (Inside (path ++ range_of path (out-Loop l) ∷ [])) qs → Each (Inside path) qs
+each_within path l [] h = tt
+each_within path l (q ∷ qs) h = ((l ∷ h.0.0, h.0.1), each_within path l qs h.1)
 
-each_within : (path : List Range) (r : Range) (qs : List Reference) → Settles r → Each (Inside (path ++ r ∷ [])) qs → Each (Inside path) qs
-each_within path r [] s h = tt
-each_within path r (q ∷ qs) s h = (within path r q s h.0, each_within path r qs s h.1)
-
-loop_inside : (path : List Range) (r : Range) (band : ℕ) (qs : List Reference) → Settles r → Each (Inside (path ++ r ∷ [])) qs → Each (Inside path) (unless_empty band (path ++ r ∷ []) qs)
-loop_inside path r zero qs s h = go (has_empty (path ++ r ∷ []))
+loop_inside : (path : List Range) (l : Loop) (band : ℕ) (qs : List Reference) → Each (Inside (path ++ range_of path (out-Loop l) ∷ [])) qs
+    → Each (Inside path) (unless_empty band (path ++ range_of path (out-Loop l) ∷ []) qs)
+loop_inside path l zero qs h = go (has_empty (path ++ range_of path (out-Loop l) ∷ []))
   where
     go : (t : Bool) → Each (Inside path) (if t then [] else qs)
     go true = tt
-    go false = each_within path r qs s h
-loop_inside path r (suc band) qs s h = each_within path r qs s h
+    go false = each_within path l qs h
+loop_inside path l (suc band) qs h = each_within path l qs h
 
 inside_from : (adds : Adding) (x : Stmt) (k : Referring) → stmt_references adds x ≡ k → ((g : Where) (band : ℕ) → Each (Inside g.path) (k g band)) → IsStmtInside adds x
 inside_from adds x k p h = subst (λ (z : Referring). (g : Where) (band : ℕ) → Each (Inside g.path) (z g band)) (sym p) h
@@ -219,7 +218,7 @@ stmt_inside adds = stmt_ind (IsStmtInside adds) (record {
       (both (Inside g.path) (list_references (map (stmt_references adds) body) (perhaps g) 0 band) _ (list_inside adds body p (perhaps g) 0 band)
       (list_inside adds otherwise q (perhaps g) (length (map (stmt_references adds) body)) band)));
   loop = λ l p. inside_from adds _ _ (fold_stmt-For (references_at adds) (references_inside adds) (roll-Loop l) ∙ fold_loop (references_at adds) (references_inside adds) l) (λ g band.
-      loop_inside g.path (range_of g.path l) band _ (range_settles g.path l) (list_inside adds l.body p (in_turn g l) 0 (band - 1)));
+      loop_inside g.path (roll-Loop l) band (list_references (map (stmt_references adds) l.body) (in_turn g l) 0 (band - 1)) (list_inside adds l.body p (in_turn g l) 0 (band - 1)));
   block = λ body p. inside_from adds _ _ (fold_stmt-Block (references_at adds) (references_inside adds) body) (λ g band. list_inside adds body p g 0 band);
 })
 
@@ -234,15 +233,28 @@ each_drop P zero xs h = h
 each_drop P (suc n) [] h = tt
 each_drop P (suc n) (x ∷ xs) h = each_drop P n xs h.1
 
+-- the ranges of inner loops, behind those around them
+settled_loops : (path : List Range) (inner : List Loop) → (more : List Range) × (ranges_of path inner ≡ path ++ more) × Each Settles more
+settled_loops path [] = ([], sym (append-nil path), tt)
+settled_loops path (l ∷ inner) =
+    let r = range_of path (out-Loop l) in
+    let rest = settled_loops (path ++ r ∷ []) inner in
+    (r ∷ rest.0, rest.1 ∙ append_assoc path (r ∷ []) rest.0, (range_settles path (out-Loop l), rest.2))
+
 each_settled : (path : List Range) (depth : ℕ) (qs : List Reference) → Each (Inside path) qs → Each (AreSettled (length path + depth)) qs
 each_settled path depth [] h = tt
 each_settled path depth (q ∷ qs) h =
-    let left : drop depth h.0.0 ≡ drop (length path + depth) q.path = sym (ap (drop (length path + depth)) h.0.1 ∙ drop_more path h.0.0 depth) in
-    (each_to_all Settles (drop (length path + depth) q.path) (subst (Each Settles) left (each_drop Settles depth h.0.0 h.0.2)), each_settled path depth qs h.1)
+    let loops = settled_loops path h.0.0 in
+    let left : drop depth loops.0 ≡ drop (length path + depth) q.path = sym (ap (drop (length path + depth)) (h.0.1 ∙ loops.1) ∙ drop_more path loops.0 depth) in
+    (each_to_all Settles (drop (length path + depth) q.path) (subst (Each Settles) left (each_drop Settles depth loops.0 loops.2)), each_settled path depth qs h.1)
+
+-- each reference of a nest stands in loops inside those around it
+pub references_inside_loops : (adds : Adding) (head : Loop) (at : List ℕ) (path : List Range) (depth : ℕ) → Each (Inside path) (references_of adds head at path depth)
+references_inside_loops adds head at path depth =
+    let g : Where = record { statement = at; path = path; conditional = false } in
+    subst (λ (k : Referring). Each (Inside path) (k g depth)) (fold_stmt-For (references_at adds) (references_inside adds) head) (stmt_inside adds (stmt.For head) g depth)
 
 pub references_are_settled : ReferencesAreSettled
 references_are_settled adds head at path depth =
-    let g : Where = record { statement = at; path = path; conditional = false } in
     each_to_all (AreSettled (length path + depth)) (references_of adds head at path depth)
-    (each_settled path depth (references_of adds head at path depth)
-    (subst (λ (k : Referring). Each (Inside path) (k g depth)) (fold_stmt-For (references_at adds) (references_inside adds) head) (stmt_inside adds (stmt.For head) g depth)))
+    (each_settled path depth (references_of adds head at path depth) (references_inside_loops adds head at path depth))
