@@ -1,6 +1,6 @@
 -- A form has coefficients of the iterators that its expression names alone.
 use Rattle.std.proofs.Common.{◌≡◌, refl, ap, sym, ◌∙◌, subst, arith, ℕ, zero, suc, ◌+◌, ◌<◌, ◌≤◌, Bool, true, false, ◌&&◌, nat_lt, if◌then◌else◌, List, [], ◌∷◌, ◌++◌, map, length, ℤ, pos, neg_ℤ, ◌+ℤ◌, ◌*ℤ◌, Option, Some, None}
-use Rattle.std.specs.Prelude.{option_and_then}
+use Rattle.std.specs.Prelude.{is_some, option_and_then}
 use Rattle.std.specs.List.{list_all}
 use Rattle.std.proofs.lemmas.Bool.{and_parts}
 use Rattle.std.proofs.lemmas.Bool.Decides.{nat_tests}
@@ -15,6 +15,8 @@ use Rattle.species_ast.specs.declared.tree.Unary.TheVariants as unary
 use Rattle.species_ast.specs.declared.tree.Value.{Value}
 use Rattle.species_ast.specs.declared.tree.Value.TheVariants as value
 use Rattle.species_ast.specs.Scope.Forms.{Form, sum_of, form_value, constant_form, one_at, iterator_form, added_coefficients, sum_form, scaled, negated, is_constant, is_within, limited, product_form, of_both, form_step, form_of, iterators_at, iterators_in}
+use Rattle.species_ast.specs.Scope.Hulls.{form_or_zero, bound_form}
+use Rattle.species_ast.specs.Scope.WellMade.{is_made_bound}
 use Rattle.species_ast.proofs.Folds.{fold_expr-Literal, fold_expr-Iter, fold_expr-Local, fold_expr-Elem, fold_expr-Unary, fold_expr-Binary, fold_expr-And, fold_expr-Or, fold_expr-Cond, fold_expr-Cast}
 use Rattle.species_ast.proofs.Induction.{expr_ind}
 
@@ -128,8 +130,12 @@ names_below = expr_ind NamesBelow (record {
   cast = λ kind a k n h. short_as n _ _ (fold_expr-Cast form_step kind a) tt;
 })
 
-pub short_form : (x : Expr) (n : ℕ) (f : Form) → list_all (λ i. nat_lt i n) (iterators_in x) ≡ true → form_of x ≡ Some f → IsShort n f
-short_form x n f h is = subst (IsShortIf n) is (names_below x n h)
+pub short_bound : (n : ℕ) (x : Expr) → is_made_bound n x ≡ true → IsShort n (bound_form x)
+short_bound n x h = go (form_of x) (names_below x n (and_parts (is_some (form_of x)) (list_all (λ i. nat_lt i n) (iterators_in x)) h).1)
+  where
+    go : (o : Option Form) → IsShortIf n o → IsShort n (form_or_zero o)
+    go (Some f) k = k
+    go None k = omega arith
 
 -- ---- values
 

@@ -2,3 +2,7 @@
 //!
 //! Nothing here runs.
 #![tactic(auto)]
+
+mod law;
+
+pub use law::law_lines;

@@ -254,6 +254,10 @@ references_inside_loops adds head at path depth =
     let g : Where = record { statement = at; path = path; conditional = false } in
     subst (λ (k : Referring). Each (Inside path) (k g depth)) (fold_stmt-For (references_at adds) (references_inside adds) head) (stmt_inside adds (stmt.For head) g depth)
 
+-- so do those of a list of statements
+pub body_inside_loops : (adds : Adding) (xs : List Stmt) (g : Where) (k band : ℕ) → Each (Inside g.path) (list_references (map (stmt_references adds) xs) g k band)
+body_inside_loops adds xs g k band = list_inside adds xs (each_all (IsStmtInside adds) (stmt_inside adds) xs) g k band
+
 pub references_are_settled : ReferencesAreSettled
 references_are_settled adds head at path depth =
     each_to_all (AreSettled (length path + depth)) (references_of adds head at path depth)
