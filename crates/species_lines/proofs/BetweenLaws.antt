@@ -16,6 +16,7 @@ use Rattle.species_ast.specs.Scope.Hulls.{Range, has_empty, fixed_range, wide_ra
 use Rattle.species_ast.specs.declared.tree.Test.{Test}
 use Rattle.species_ast.specs.declared.tree.Test.TheVariants as test
 use Rattle.species_ast.proofs.Induction.{Each}
+use Rattle.species_ast.proofs.IteratorLaws.{in_turn}
 use Rattle.species_linear.specs.Point.{Point, point_of}
 use Rattle.species_linear.specs.Value.{form_at}
 use Rattle.species_merge.specs.Bands.{bound_at}
@@ -24,7 +25,7 @@ use Rattle.species_merge.specs.Bounds.{Ends, range_ends, ends_by, ends_between, 
 use Rattle.species_merge.specs.declared.bands.BandBound.{BandBound}
 use Rattle.species_nests.specs.Arrivals.{header, Running}
 use Rattle.species_nests.proofs.IteratorArrivals.{GoesInside}
-use Rattle.species_occurrences.specs.Iterators.{MayTake, AreTheirs, ranges_of}
+use Rattle.species_occurrences.specs.Iterators.{IsInt, MayTake, AreTheirs, ranges_of}
 use Rattle.species_occurrences.proofs.HeaderLaws.{HasBounds, AllTaken, header_is}
 use Rattle.species_occurrences.proofs.NestLaws.{unconditional}
 use Rattle.species_occurrences.proofs.RangeLaws.{IsBetween, last_of, value-last_form, turn_between, each_counted}
@@ -54,7 +55,7 @@ within_between path step first last iters i h b = go (is_constant first && is_co
 
     go : (t : Bool) → MayTake (if t then r else (if has_empty path then no_range step first last else wide_range path step first last)) i
         → IsWithin (if t then range_ends r else ends_by step first last) iters i
-    go true k = (omega (arith, ints, k.0), omega (arith, ints, k.1.0))
+    go true k = (omega (arith, ints, k.0), omega (arith, ints, k.1))
     go false k = within_by step first last iters i b
 
 each_contains : {X : Type 0} (P : X → Type 0) (xs : List X) → Each P xs → (x : X) → Contains xs x → P x
@@ -72,7 +73,8 @@ each_between l b iters =
     let P : ℤ → Type 0 = IsBetween l.step (form_value (bound_form l.start) iters) (form_value (last_form l.test (bound_form l.limit)) iters) in
     each_counted P _ (form_value b.start iters) l.step (λ k below.
     let between = turn_between l.test (form_value b.start iters) (form_value b.limit iters) l.step k b.steps below in
-    subst (λ z. IsBetween l.step z (form_value (last_form l.test (bound_form l.limit)) iters) _) (sym start) (subst (λ z. IsBetween l.step (form_value b.start iters) z _) (sym last) between))
+    let turn : ℤ = in_turn (form_value b.start iters) l.step k in
+    subst (λ z. IsBetween l.step z (form_value (last_form l.test (bound_form l.limit)) iters) turn) (sym start) (subst (λ z. IsBetween l.step (form_value b.start iters) z turn) (sym last) between))
 
 -- ---- loops in loops
 
@@ -108,7 +110,7 @@ goes_between join w l around at f m begun is i q ended c bounded =
     let all = every_ended join Anything (λ (js : List ℤ). (js ≡ values) × AllTaken (range_of path (out-Loop l)) js) (header w l at f) m is begun
     (header_is w (out-Loop l) b (spot (out-Loop l).place at) (unconditional at path) f.iters f refl (refl, now.0.0, now.0.1) Anything) ended
     in
-    let taken = each_contains (λ j. MayTake (range_of path (out-Loop l)) j × _) is all.1 i c in
+    let taken = each_contains (λ j. MayTake (range_of path (out-Loop l)) j × IsInt j) is all.1 i c in
     let between = each_contains (IsBetween (out-Loop l).step (form_value (bound_form (out-Loop l).start) f.iters) (form_value (last_form (out-Loop l).test (bound_form (out-Loop l).limit)) f.iters)) values
     (each_between (out-Loop l) b f.iters) i (subst (λ js. Contains js i) all.0 c) in (
       goes_inside join w l around at f m begun is i (λ some. (q some).0) ended c bounded,

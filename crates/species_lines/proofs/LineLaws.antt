@@ -1,5 +1,5 @@
 -- The arcs of references of a nest hold in each turn of the innermost loop of its band.
-use Rattle.std.proofs.Common.{◌≡◌, refl, ap, sym, ◌∙◌, subst, arith, ◌⊎◌, inl, inr, ℕ, zero, suc, ◌+◌, Bool, true, false, List, [], ◌∷◌, ◌++◌, map, length, drop, ℤ, pos, Option, Some, None, All}
+use Rattle.std.proofs.Common.{◌≡◌, refl, ap, sym, ◌∙◌, subst, arith, ◌⊎◌, inl, inr, ℕ, zero, suc, ◌+◌, Bool, true, false, List, [], ◌∷◌, ◌++◌, map, length, drop, slice_index_or, ℤ, pos, Option, Some, None, All}
 use Rattle.std.specs.Prelude.{IsTrue}
 use Rattle.std.specs.List.{Any, Contains}
 use Rattle.std.proofs.lemmas.List.{length-append, length-map}
@@ -14,10 +14,12 @@ use Rattle.species_ast.specs.Evaluation.{Frame, sizes_of}
 use Rattle.species_ast.specs.Run.{source_context}
 use Rattle.species_ast.specs.Scope.Forms.{Form}
 use Rattle.species_ast.specs.Scope.Hulls.{Range, range_of}
-use Rattle.species_ast.specs.Scope.References.{Reference, Adding, stmt_references}
+use Rattle.species_ast.specs.Scope.References.{Reference, Adding, stmt_references, references_of}
 use Rattle.species_ast.proofs.Induction.{Each}
 use Rattle.species_linear.specs.Point.{point_of}
 use Rattle.species_merge.specs.Arcs.{AreArcsOf}
+use Rattle.species_merge.specs.Bounds.{IsBoundOf}
+use Rattle.species_merge.specs.declared.bands.BandBound.{BandBound}
 use Rattle.species_merge.specs.Law.{AreInBoxes, IsHeld, IsValueAt, IsTouchedBy, AreSettled}
 use Rattle.species_merge.proofs.Folding.{Has, all_of, each_of, any_of}
 use Rattle.species_merge.proofs.ClassLemmas.{has_with, each_more}
@@ -27,7 +29,7 @@ use Rattle.species_merge.proofs.SettledLaws.{Inside, body_inside_loops, referenc
 use Rattle.species_nests.specs.Arrivals.{Running, turn_of}
 use Rattle.species_nests.specs.Nests.{nest_of}
 use Rattle.species_occurrences.specs.Affine.{AreIndicesOf}
-use Rattle.species_occurrences.specs.Iterators.{AreTaken, ranges_of}
+use Rattle.species_occurrences.specs.Iterators.{AreTaken, AreTheirs, ranges_of}
 use Rattle.species_occurrences.specs.Made.{IsMadeBy, IsMadeAmong, Begins, IsMade}
 use Rattle.species_occurrences.specs.Surely.{IsDoneAt, IsOneOf, AreConstant}
 use Rattle.species_occurrences.proofs.HeaderLaws.{HasIters}
@@ -42,7 +44,7 @@ use Rattle.species_references.specs.declared.nest.Reference.{Reference as Held}
 use Rattle.species_references.proofs.TurnLaws.{references_have_turns}
 use Rattle.species_runs.proofs.EveryLaws.{every_access}
 use Rattle.species_lines.specs.Lines.{place_of, IsIn, IsTouch, Standing, standing_nest, band_loops, nest_references, LinesHold}
-use Rattle.species_lines.proofs.BetweenLaws.{band_holds}
+use Rattle.species_lines.proofs.BetweenLaws.{AreBetween, band_holds}
 use Rattle.species_lines.proofs.IndexLaws.{indices_in_boxes}
 use Rattle.species_lines.proofs.LevelLaws.{running_named}
 use Rattle.species_lines.proofs.StandingLaws.{ranges_append, own_references}
@@ -174,18 +176,20 @@ lines_hold join u m r adds s qs arcs t well comes inner regular nest turns = rec
     path : List Range
     path = ranges_of around (r.loop ∷ [])
 
+    their : AreTheirs (r.around ++ r.loop ∷ []) iters × AreBetween [] (r.around ++ r.loop ∷ []) iters
     their = turn_iterators join u m r t well comes turns
 
     taken : AreTaken path iters
     taken = subst (λ p. AreTaken p iters) (ranges_append [] r.around (r.loop ∷ [])) their.0.0
 
     -- the references of the nest are those of the running's own nest
+    same : own ≡ references_of adds r.loop r.at around 1
     same = own_references adds s r inner
 
     made : Each (IsMade sizes iters own) done
     made =
         subst (λ rs. Each (IsMade sizes iters rs) done) (sym same)
-        (every_access join _ (HasIters iters) does t.arrays (nest_body_made (source_context u) adds 0 r.loop r.at around iters t.frame regular taken their.0.1 refl))
+        (every_access join (IsMade sizes iters (references_of adds r.loop r.at around 1)) (HasIters iters) does t.arrays (nest_body_made (source_context u) adds 0 r.loop r.at around iters t.frame regular taken their.0.1 refl))
 
     among : Each (λ q. IsOneOf q own) qs
     among = each_of (λ q. IsOneOf q own) qs nest.among
@@ -193,12 +197,12 @@ lines_hold join u m r adds s qs arcs t well comes inner regular nest turns = rec
     -- ---- lengths
 
     bands_long : length (standing_nest s).loops ≡ length nest.bands
-    bands_long = sym (length-map (standing_nest s).loops (λ p. p.loop)) ∙ pairwise_length _ (band_loops s) nest.bands nest.bounds
+    bands_long = sym (length-map (standing_nest s).loops (λ p. p.loop)) ∙ pairwise_length (λ (l : Loop) (b : BandBound). IsBoundOf (out-Loop l) b) (band_loops s) nest.bands nest.bounds
 
     all_loops : length s.around + length nest.bands ≡ length r.around + 1
     all_loops =
         let one : length (r.around ++ r.loop ∷ []) ≡ length (s.around ++ band_loops s) = ap length inner.loops in
-        omega (arith, one, length-append r.around (r.loop ∷ []), length-append s.around (band_loops s), pairwise_length _ (band_loops s) nest.bands nest.bounds)
+        omega (arith, one, length-append r.around (r.loop ∷ []), length-append s.around (band_loops s), pairwise_length (λ (l : Loop) (b : BandBound). IsBoundOf (out-Loop l) b) (band_loops s) nest.bands nest.bounds)
 
     top : length s.around + length nest.bands ≡ length path
     top = omega (arith, all_loops, ranges_length around (r.loop ∷ []), ranges_length [] r.around)
@@ -274,5 +278,5 @@ lines_hold join u m r adds s qs arcs t well comes inner regular nest turns = rec
 
     fill : IsDefined (run join does t.arrays) → Each (λ c. IsTrue c.exact → (place : List ℤ) → IsInSet c (point_of iters) place → Any (IsTouch sizes qs c place) done) arcs
     fill ended = each_of (λ c. IsTrue c.exact → (place : List ℤ) → IsInSet c (point_of iters) place → Any (IsTouch sizes qs c place) done) arcs (λ k d l exact place set.
-        touch ended _ place
+        touch ended (slice_index_or arcs k d) place
         (exact_sets_are_touched sizes (length s.around) nest.bands nest.refs qs arcs iters place nest.shown full_turns settled nest.merged (long ∙ sym top) k d l exact set))

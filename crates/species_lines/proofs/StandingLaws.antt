@@ -15,7 +15,7 @@ use Rattle.species_lines.specs.Lines.{Standing, standing_nest, band_loops, nest_
 
 -- ---- the last loop
 
-last_loop : Loop → List Loop → Loop
+abbrev last_loop : Loop → List Loop → Loop
 last_loop l [] = l
 last_loop l (x ∷ xs) = last_loop x xs
 

@@ -11,3 +11,4 @@ pub mod ReachLaws
 pub mod FreeLaws
 pub mod ExactLaws
 pub mod SettledLaws
+pub mod BoundLemmas
