@@ -92,6 +92,9 @@ regular_inward adds = record {
 
 -- the law
 pub additions_are_marked : AdditionsAreMarked
-additions_are_marked join u m r well comes = ((running_bounded join u m r well comes).1, λ plain.
-    reaches_in_has join (λ x. is_regular no_adds x ≡ true) (regular_inward no_adds) (source_context u) (moment r) u.body [] [] 0 (first_frame u) m comes
-    (each_regular no_adds u.body (plain_list u.body (each_all IsPlainly is_plainly u.body) (list_regular u.body (outermost u) well.body) (mapped_all u.body plain))))
+additions_are_marked join u m r well comes = (
+  (running_bounded join u m r well comes).1,
+  λ plain.
+      reaches_in_has join (λ x. is_regular no_adds x ≡ true) (regular_inward no_adds) (source_context u) (moment r) u.body [] [] 0 (first_frame u) m comes
+      (each_regular no_adds u.body (plain_list u.body (each_all IsPlainly is_plainly u.body) (list_regular u.body (outermost u) well.body) (mapped_all u.body plain))),
+)

@@ -6,3 +6,4 @@ pub mod BetweenLaws
 pub mod TurnIterators
 pub mod IndexLaws
 pub mod LineLaws
+pub mod OutsideLaws

@@ -1,6 +1,6 @@
 -- What arcs of references say of a nest in a run, in each turn of the innermost loop of its band: the body of a loop is executed once
 -- a turn (C17 6.8.5p4, 6.8.5.3).
-use Rattle.std.specs.Prelude.{◌≡◌, ℕ, ◌+◌, true, ℤ, pos, List, [], ◌∷◌, ◌++◌, map, length, All, IsTrue}
+use Rattle.std.specs.Prelude.{◌≡◌, ℕ, ◌+◌, ◌<◌, true, ℤ, pos, List, [], ◌∷◌, ◌++◌, map, length, All, IsTrue}
 use Rattle.std.specs.List.{Any, Contains}
 use Rattle.species_arcs.specs.Pairwise.{Pairwise}
 use Rattle.species_arcs.specs.Sets.{IsInSet, IsInDomain}
@@ -14,7 +14,8 @@ use Rattle.species_ast.specs.Marks.{IsUnmarked}
 use Rattle.species_ast.specs.Run.{source_context}
 use Rattle.species_ast.specs.Scope.References.{Reference, Adding, no_adds, references_of}
 use Rattle.species_ast.specs.Scope.WellMade.{IsWellMade}
-use Rattle.species_linear.specs.Point.{point_of}
+use Rattle.species_linear.specs.Point.{Point, point_of}
+use Rattle.species_linear.specs.Value.{NamesOnly}
 use Rattle.species_merge.specs.Arcs.{AreArcsOf}
 use Rattle.species_merge.specs.Bounds.{IsBoundOf}
 use Rattle.species_merge.specs.declared.bands.BandBound.{BandBound}
@@ -106,6 +107,24 @@ LinesHold = (join : Joins) (u : Program) (m : Cells) (r : Running) (adds : Addin
     → Contains (loop_turns join (source_context u) r.loop r.at r.frame r.arrays) t
     → HoldIn (sizes_of (source_context u)) t.frame.iters (nest_references adds s) qs arcs
     (accesses join (turn_of (source_context u) r.loop r.at t.frame) t.arrays) (IsDefined (run join (turn_of (source_context u) r.loop r.at t.frame) t.arrays))
+
+-- ---- domains
+
+-- the bound names iterators of levels below `outer` alone
+abbrev pub NamesOutside : ℕ → BandBound → Type 0
+NamesOutside outer b = NamesOnly b.least outer × NamesOnly b.greatest outer
+
+-- the points agree there
+abbrev pub AgreeOutside : ℕ → Point → Point → Type 0
+AgreeOutside outer p q = (level : ℕ) → level < outer → p level ≡ q level
+
+-- The domains in `LinesHold` are taken at all iterators, those of the band too, which its bounds may name. Where they name none of
+-- these, a domain has the same places whatever the iterators of the band are.
+abbrev pub DomainsAreOutside : Type 0
+DomainsAreOutside = (outer : ℕ) (bands : List BandBound) (refs : List Held) (arcs : List Arc) (p q : Point) (place : List ℤ) → AreArcsOf outer bands refs arcs
+    → All (NamesOutside outer) bands → AgreeOutside outer p q → All (λ arc. IsInDomain arc p place → IsInDomain arc q place) arcs
+
+-- ---- additions
 
 -- What adds in a loop to which a run of a well made unit comes is what is marked, which is nothing in a unit without marks.
 abbrev pub AdditionsAreMarked : Type 0

@@ -1,17 +1,14 @@
 -- The ends of a loop by its range, or by the forms of its bounds.
-use Rattle.std.proofs.Common.{◌≡◌, refl, ap, sym, ◌∙◌, subst, arith, ℕ, ◌≤◌, Bool, true, false, ◌&&◌, if◌then◌else◌, List, ℤ, pos, negsuc, ◌<ℤ◌, ◌≤ℤ◌, Some, None, is_some, All, length}
-use Rattle.std.specs.Int.RustNames.{unsigned_abs}
+use Rattle.std.proofs.Common.{◌≡◌, refl, ap, sym, ◌∙◌, subst, arith, ℕ, ◌≤◌, Bool, true, false, ◌&&◌, if◌then◌else◌, List, ℤ, pos, negsuc, ◌<ℤ◌, ◌≤ℤ◌, Some, None, is_some}
 use Rattle.std.proofs.lemmas.Int.{ints}
 use Rattle.species_affine.specs.Subscript.{IsSameForm}
 use Rattle.species_ast.specs.declared.tree.Stmt.TheOpen.{Loop-F}
 use Rattle.species_ast.specs.Scope.Forms as text
 use Rattle.species_ast.specs.Scope.Hulls.{Range, has_empty, fixed_range, no_range, wide_range, range_between, range_of, start_constant, bound_form, last_form}
 use Rattle.species_linear.specs.declared.forms.Form.{Form}
-use Rattle.species_linear.specs.declared.forms.Term.{Term}
 use Rattle.species_references.specs.Boxes.{has_constant_bounds}
-use Rattle.species_merge.specs.Bounds.{Ends, range_ends, ends_by, ends_between, ends_of, IsBoundOf}
-use Rattle.species_merge.specs.Sizes.{HasNumbers, IsSmallBound}
-use Rattle.species_merge.specs.declared.bands.BandBound.{BandBound}
+use Rattle.species_merge.specs.Bounds.{Ends, range_ends, ends_by, ends_of, IsBoundOf}
+use Rattle.species_merge.specs.Sizes.{HasNumbers}
 
 -- ---- ranges
 

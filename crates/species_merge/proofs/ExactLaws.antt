@@ -1,5 +1,5 @@
 -- Each place of an exact set is touched.
-use Rattle.std.proofs.Common.{◌≡◌, ◌≢◌, ◌⊎◌, inl, inr, ◌∙◌, refl, ap, sym, subst, arith, ℕ, zero, suc, ◌+◌, ◌-◌, ◌<◌, ◌≤◌, Bool, true, false, ◌&&◌, ◌||◌, not, nat_eq, nat_le, nat_lt, if◌then◌else◌, List, [], ◌∷◌, ◌++◌, length, map, drop, slice_index_or, All, Option, Some, None, is_some, IsTrue, ℤ, pos, ◌+ℤ◌, ◌-ℤ◌, ◌*ℤ◌, ◌≤ℤ◌}
+use Rattle.std.proofs.Common.{◌≡◌, ◌≢◌, ◌⊎◌, inl, inr, ◌∙◌, refl, ap, sym, subst, arith, ℕ, zero, suc, ◌+◌, ◌<◌, ◌≤◌, Bool, true, false, ◌&&◌, not, nat_lt, if◌then◌else◌, List, [], ◌∷◌, ◌++◌, length, map, drop, slice_index_or, All, Option, Some, None, is_some, IsTrue, ℤ, pos, ◌+ℤ◌, ◌-ℤ◌, ◌*ℤ◌, ◌≤ℤ◌}
 use Rattle.std.specs.List.{Any, list_all, drop-map}
 use Rattle.std.specs.Int.{◌∣◌}
 use Rattle.std.specs.Int.RustNames.{unsigned_abs}
@@ -20,19 +20,19 @@ use Rattle.species_arcs.specs.Spans.{IsInSpan}
 use Rattle.species_arcs.specs.declared.places.Arc.{Arc}
 use Rattle.species_arcs.specs.declared.places.ArcDim.{ArcDim}
 use Rattle.species_arcs.specs.declared.spans.Span.{Span}
-use Rattle.species_ast.specs.Scope.Forms.{Form, form_value, sum_of}
+use Rattle.species_ast.specs.Scope.Forms.{Form, sum_of}
 use Rattle.species_ast.specs.Scope.Hulls.{Range, is_empty, has_empty}
 use Rattle.species_ast.specs.Scope.References as text
 use Rattle.species_linear.specs.declared.forms.Form as linear
 use Rattle.species_linear.proofs.Linear.{sum_at-append}
 use Rattle.species_linear.specs.Point.{Point, point_of}
-use Rattle.species_linear.specs.Value.{sum_at, form_at, coefficient_at}
+use Rattle.species_linear.specs.Value.{sum_at}
 use Rattle.species_linear.specs.declared.forms.Term.{Term}
 use Rattle.species_occurrences.specs.Iterators.{AreTaken}
 use Rattle.species_occurrences.specs.Surely.{AreConstant}
 use Rattle.species_references.specs.Boxes.{AreBoxes, unit_of, has_constant_bounds}
 use Rattle.species_references.specs.Law.{HasTurns}
-use Rattle.species_references.specs.Ranges.{range_seen, ranges_seen}
+use Rattle.species_references.specs.Ranges.{range_seen}
 use Rattle.species_references.specs.References.{direction_of, IsReference}
 use Rattle.species_references.specs.declared.nest.Reference.{Reference}
 use Rattle.species_merge.proofs.Divides.{dvd_at, dvd_nothing, dvd_through, same_or_not}
@@ -41,11 +41,11 @@ use Rattle.species_merge.proofs.ClassLemmas.{AreAlike, fronts, has_more, has_wit
 use Rattle.species_merge.proofs.SetLaws.{has_of, head_same, without_constant}
 use Rattle.species_merge.proofs.TermLemmas.{parts_are_all}
 use Rattle.species_merge.proofs.FreeLaws.{both_false, both_true, not_true, ApartFrom, AreFree, free_forms}
-use Rattle.species_merge.proofs.ReachLaws.{IsWhole, AreWhole, IsAlone, AreApart, Reached, reach_box}
-use Rattle.species_merge.specs.Hulls.{IsHullOf, gaps_of, own_stride, Covers}
+use Rattle.species_merge.proofs.ReachLaws.{AreWhole, AreApart, reach_box}
+use Rattle.species_merge.specs.Hulls.{IsHullOf, gaps_of, own_stride}
 use Rattle.species_merge.specs.Classes.{terms_of, terms_below, terms_from, Class, members, classes_of, box_at, box_in, column}
-use Rattle.species_merge.specs.Exact.{is_affine, is_free, is_constant_loop, is_regular, FillsAlong, Fills, IsExact}
-use Rattle.species_merge.specs.Arcs.{added_in, AreDimsFrom, IsArcOf, AreArcsOf}
+use Rattle.species_merge.specs.Exact.{is_affine, is_free, is_constant_loop, is_regular, Fills}
+use Rattle.species_merge.specs.Arcs.{added_in, AreDimsFrom, IsArcOf}
 use Rattle.species_merge.specs.Law.{IsSettled, AreSettled, IsValueAt, IsTouchedBy, ExactSetsAreTouched}
 use Rattle.species_merge.specs.declared.bands.BandBound.{BandBound}
 

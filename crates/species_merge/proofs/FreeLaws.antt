@@ -1,7 +1,6 @@
 -- Inner iterators that stand alone, in the terms of subscripts and in the coefficients of forms.
 use Rattle.std.proofs.Common.{◌≡◌, ◌≢◌, ◌⊎◌, inl, inr, ◌∙◌, refl, ap, sym, subst, arith, ℕ, zero, suc, ◌+◌, ◌<◌, ◌≤◌, Bool, true, false, ◌&&◌, ◌||◌, not, nat_eq, nat_le, nat_lt, if◌then◌else◌, List, [], ◌∷◌, length, drop, slice_index_or, Option, Some, None, ℤ, pos}
 use Rattle.std.specs.List.{list_all, list_any}
-use Rattle.std.proofs.lemmas.Int.{ints}
 use Rattle.std.proofs.lemmas.Bool.{eqb-true}
 use Rattle.std.proofs.lemmas.Bool.Decides.{nat_tests}
 use Rattle.species_affine.specs.Subscript.{IsSubscript, IsSameForm}
@@ -15,7 +14,7 @@ use Rattle.species_linear.specs.declared.forms.Term.{Term}
 use Rattle.species_merge.proofs.Divides.{same_or_not}
 use Rattle.species_merge.proofs.Folding.{Each}
 use Rattle.species_merge.proofs.ReachLaws.{IsAlone, AreApart}
-use Rattle.species_merge.specs.Classes.{terms_of, terms_from}
+use Rattle.species_merge.specs.Classes.{terms_from}
 use Rattle.species_merge.specs.Exact.{is_affine, inner_terms, is_at_level, names_level, are_apart, are_apart_inside, is_free}
 
 pub both_false : (a b : Bool) → (a || b) ≡ false → (a ≡ false) × (b ≡ false)

@@ -1,5 +1,5 @@
 -- Each number of a box whose dimension has one inner iterator is taken.
-use Rattle.std.proofs.Common.{◌≡◌, ◌≢◌, ◌⊎◌, inl, inr, ◌∙◌, refl, ap, sym, subst, arith, ℕ, zero, suc, ◌+◌, ◌*◌, ◌/◌, Bool, true, false, nat_eq, if◌then◌else◌, List, [], ◌∷◌, drop, ℤ, pos, negsuc, ◌+ℤ◌, ◌-ℤ◌, ◌*ℤ◌, ◌≤ℤ◌, ◌<ℤ◌, All}
+use Rattle.std.proofs.Common.{◌≡◌, ◌≢◌, ◌⊎◌, inl, inr, ◌∙◌, refl, ap, sym, subst, arith, ℕ, zero, suc, ◌*◌, ◌/◌, Bool, true, false, nat_eq, if◌then◌else◌, List, [], ◌∷◌, drop, ℤ, pos, negsuc, ◌+ℤ◌, ◌-ℤ◌, ◌*ℤ◌, ◌≤ℤ◌, ◌<ℤ◌, All}
 use Rattle.std.specs.Int.{◌∣◌}
 use Rattle.std.specs.Int.RustNames.{unsigned_abs}
 use Rattle.std.specs.Ordering.{int_eq}
@@ -7,14 +7,14 @@ use Rattle.std.proofs.lemmas.Int.{ints}
 use Rattle.std.proofs.lemmas.Bool.{eqb-true}
 use Rattle.std.proofs.lemmas.Bool.Decides.{Decides-int_eq}
 use Rattle.std.proofs.Math.Nat.{dvd-mul_left, div-add-mod', mod-eq-zero_of_dvd}
-use Rattle.std.proofs.lemmas.Nat.Gcd.{dvd_refl, dvd-zero, dvd_trans}
+use Rattle.std.proofs.lemmas.Nat.Gcd.{dvd_refl, dvd-zero}
 use Rattle.species_arcs.specs.Spans.{IsInSpan}
 use Rattle.species_arcs.specs.declared.spans.Span.{Span}
-use Rattle.species_ast.specs.Scope.Forms.{Form, sum_of, form_value}
+use Rattle.species_ast.specs.Scope.Forms.{Form, sum_of}
 use Rattle.species_ast.specs.Scope.Hulls.{Range, least_product, greatest_product, least_sum, greatest_sum}
 use Rattle.species_integers.proofs.Products.{mul_up, mul_down, mul_plus, mul_minus, mul_zero, mul_one}
 use Rattle.species_occurrences.specs.Iterators.{MayTake, AreTaken}
-use Rattle.species_references.specs.Boxes.{inner_part, unit_of, gap_of, gaps_of, IsGcdOf, IsStrideOf, IsBoxOf}
+use Rattle.species_references.specs.Boxes.{inner_part, unit_of, gap_of, gaps_of, IsGcdOf, IsBoxOf}
 use Rattle.species_merge.proofs.Divides.{dvd_at, dvd_nothing, dvd_ways, dvd_turned, dvd_through, same_or_not}
 use Rattle.species_merge.proofs.Folding.{Each, each_of, all_of}
 use Rattle.species_merge.specs.Law.{IsSettled}

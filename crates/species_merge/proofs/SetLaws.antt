@@ -1,5 +1,5 @@
 -- The sets of arcs hold the boxes of their references, and lie in their domains.
-use Rattle.std.proofs.Common.{◌≡◌, ◌≢◌, ◌⊎◌, inl, inr, ◌∙◌, refl, ap, sym, subst, arith, ℕ, zero, suc, ◌+◌, ◌-◌, ◌<◌, ◌≤◌, Bool, true, false, nat_lt, if◌then◌else◌, List, [], ◌∷◌, length, map, drop, slice_index_or, All, ℤ, pos, ◌+ℤ◌, ◌-ℤ◌, ◌*ℤ◌, ◌≤ℤ◌}
+use Rattle.std.proofs.Common.{◌≡◌, inl, inr, ◌∙◌, refl, ap, sym, subst, arith, ℕ, zero, suc, ◌+◌, ◌-◌, ◌<◌, ◌≤◌, Bool, true, false, nat_lt, if◌then◌else◌, List, [], ◌∷◌, length, drop, slice_index_or, All, ℤ, pos, ◌+ℤ◌, ◌-ℤ◌, ◌*ℤ◌, ◌≤ℤ◌}
 use Rattle.std.specs.List.{Any}
 use Rattle.std.specs.Int.{◌∣◌}
 use Rattle.std.specs.Int.RustNames.{unsigned_abs, int_lt}
@@ -8,7 +8,7 @@ use Rattle.std.proofs.lemmas.Int.{ints}
 use Rattle.std.proofs.lemmas.Bool.Decides.{nat_tests, Decides-int_eq}
 use Rattle.species_affine.specs.declared.subscript.Subscript.{Subscript}
 use Rattle.species_arcs.specs.Pairwise.{Pairwise}
-use Rattle.species_arcs.specs.Sets.{offsets_of, IsInDim, IsInSet, IsInDimDomain, IsInDomain}
+use Rattle.species_arcs.specs.Sets.{IsInDim, IsInSet, IsInDimDomain, IsInDomain}
 use Rattle.species_arcs.specs.Spans.{IsInSpan}
 use Rattle.species_arcs.specs.declared.places.Arc.{Arc}
 use Rattle.species_arcs.specs.declared.places.ArcDim.{ArcDim}
@@ -23,11 +23,11 @@ use Rattle.species_references.specs.declared.nest.Reference.{Reference}
 use Rattle.species_merge.proofs.Divides.{same_or_not, dvd_at, dvd_nothing, dvd_ways, dvd_through}
 use Rattle.species_merge.proofs.Folding.{Each, Has, all_of, each_of, any_of, DividesAll}
 use Rattle.species_merge.proofs.TermLemmas.{all_below}
-use Rattle.species_merge.proofs.ClassLemmas.{fronts, AreAlike, has_more, has_with, has_map, each_more, InClass, each_alike, in_class}
-use Rattle.species_merge.specs.Hulls.{IsGcdOf, own_stride, gaps_of, IsHullOf}
-use Rattle.species_merge.specs.Classes.{terms_of, terms_below, terms_from, Class, members, classes_of, box_at, box_in, column}
-use Rattle.species_merge.specs.Bands.{bound_at, end_form, ends_at, IsEndOf}
-use Rattle.species_merge.specs.Arcs.{added_in, IsDimOf, AreDimsFrom, IsArcOf, AreArcsOf}
+use Rattle.species_merge.proofs.ClassLemmas.{fronts, AreAlike, has_more, has_map, InClass, each_alike, in_class}
+use Rattle.species_merge.specs.Hulls.{own_stride, gaps_of, IsHullOf}
+use Rattle.species_merge.specs.Classes.{terms_of, terms_below, Class, members, classes_of, box_at, box_in, column}
+use Rattle.species_merge.specs.Bands.{bound_at, end_form, ends_at}
+use Rattle.species_merge.specs.Arcs.{added_in, IsDimOf, AreDimsFrom, IsArcOf}
 use Rattle.species_merge.specs.Law.{AreInBoxes, IsHeld, SetsHoldBoxes, AreInBand, SetsLieInDomains}
 use Rattle.species_merge.specs.declared.bands.BandBound.{BandBound}
 

@@ -1,5 +1,5 @@
 -- The loops around references of a nest take all numbers of their ranges in whole steps, if they go from a constant to a constant.
-use Rattle.std.proofs.Common.{◌≡◌, refl, ap, sym, ◌∙◌, subst, arith, ℕ, zero, suc, ◌+◌, ◌-◌, ◌*◌, ◌/◌, ◌<◌, Bool, true, false, ◌&&◌, if◌then◌else◌, List, [], ◌∷◌, ◌++◌, map, length, drop, append_assoc, append-nil, Option, Some, None, is_some, IsTrue, All, ℤ, pos, negsuc, ◌+ℤ◌, ◌-ℤ◌, ◌*ℤ◌, ◌≤ℤ◌}
+use Rattle.std.proofs.Common.{◌≡◌, refl, ap, sym, ◌∙◌, subst, arith, ℕ, zero, suc, ◌+◌, ◌-◌, ◌*◌, ◌/◌, Bool, true, false, ◌&&◌, if◌then◌else◌, List, [], ◌∷◌, ◌++◌, map, length, drop, append_assoc, append-nil, Option, Some, None, is_some, IsTrue, ℤ, pos, negsuc, ◌+ℤ◌, ◌-ℤ◌, ◌*ℤ◌, ◌≤ℤ◌}
 use Rattle.std.specs.Int.{◌∣◌}
 use Rattle.std.specs.Int.RustNames.{unsigned_abs, int_le}
 use Rattle.std.proofs.lemmas.Int.{ints}
@@ -17,8 +17,8 @@ use Rattle.species_ast.proofs.Folds.{fold_stmt-Assign, fold_stmt-AddTo, fold_stm
 use Rattle.species_ast.proofs.Induction.{Each, each_all, expr_ind, stmt_ind}
 use Rattle.species_ast.proofs.Paras.{para_expr-Literal, para_expr-Iter, para_expr-Local, para_expr-Unary, para_expr-Binary, para_expr-And, para_expr-Or, para_expr-Cond, para_expr-Cast}
 use Rattle.species_ast.proofs.ReferenceLaws.{elements_of-Elem}
-use Rattle.species_occurrences.specs.Iterators.{MayTake, IsCounted, ranges_of}
-use Rattle.species_references.specs.Boxes.{has_constant_bounds, unit_of}
+use Rattle.species_occurrences.specs.Iterators.{ranges_of}
+use Rattle.species_references.specs.Boxes.{has_constant_bounds}
 use Rattle.species_references.proofs.TurnLaws.{each_to_all}
 use Rattle.species_merge.proofs.Divides.{dvd_at, dvd_turned, dvd_ways}
 use Rattle.species_merge.specs.Law.{IsSettled, AreSettled, ReferencesAreSettled}

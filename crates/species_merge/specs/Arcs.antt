@@ -1,5 +1,5 @@
 -- The arcs of the classes of references.
-use Rattle.std.specs.Prelude.{◌≡◌, ◌≢◌, ◌↔◌, ℕ, suc, ◌+◌, ◌/◌, ℤ, pos, ◌+ℤ◌, ◌-ℤ◌, true, false, nat_lt, List, [], ◌∷◌, length, map, IsTrue}
+use Rattle.std.specs.Prelude.{◌≡◌, ◌≢◌, ◌↔◌, ℕ, suc, ◌+◌, ◌/◌, pos, ◌+ℤ◌, ◌-ℤ◌, true, false, nat_lt, List, [], ◌∷◌, length, map, IsTrue}
 use Rattle.std.specs.Int.RustNames.{unsigned_abs}
 use Rattle.species_affine.specs.declared.subscript.Subscript.{Subscript}
 use Rattle.species_arcs.specs.Pairwise.{Pairwise}

@@ -1,5 +1,4 @@
 use Rattle.std.proofs.Common.{arith, rules, ◌^◌}
-use Rattle.std.proofs.lemmas.Int.{ints}
 use Rattle.species_ast.specs.declared.tree.Loop.{out-Loop}
 use Rattle.species_ast.specs.Scope.Forms.{form_limit}
 use Rattle.species_references.specs.Ranges.{range_seen}
