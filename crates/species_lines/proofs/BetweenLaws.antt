@@ -1,7 +1,6 @@
 -- In a running the iterator of each loop lies between the ends of the loop, which go by the iterators outside it.
-use Rattle.std.proofs.Common.{◌≡◌, refl, ap, sym, ◌∙◌, subst, arith, ℕ, zero, suc, ◌+◌, ◌<◌, Bool, true, false, ◌&&◌, if◌then◌else◌, List, [], ◌∷◌, ◌++◌, length, slice_index_or, ℤ, pos, negsuc, ◌+ℤ◌, ◌≤ℤ◌, append_assoc, append-nil, All}
-use Rattle.std.specs.List.{Contains, list_all}
-use Rattle.std.proofs.lemmas.Bool.{and_parts}
+use Rattle.std.proofs.Common.{◌≡◌, refl, ap, sym, ◌∙◌, subst, arith, ℕ, zero, suc, ◌+◌, ◌<◌, Bool, true, false, ◌&&◌, if◌then◌else◌, List, [], ◌∷◌, ◌++◌, length, slice_index_or, ℤ, pos, negsuc, ◌≤ℤ◌, append_assoc, append-nil}
+use Rattle.std.specs.List.{Contains}
 use Rattle.std.proofs.lemmas.Int.{ints}
 use Rattle.std.proofs.lemmas.List.{length-append}
 use Rattle.species_affine.proofs.FormLaws.{same_value}
@@ -11,7 +10,7 @@ use Rattle.species_ast.specs.declared.tree.Stmt.TheOpen.{Loop-F}
 use Rattle.species_ast.specs.Accesses.{Joins}
 use Rattle.species_ast.specs.Evaluation.{Context}
 use Rattle.species_ast.specs.Run.{spot, iterator_values}
-use Rattle.species_ast.specs.Scope.Forms.{Form, form_of, form_value, is_constant, constant_form}
+use Rattle.species_ast.specs.Scope.Forms.{Form, form_value, is_constant}
 use Rattle.species_ast.specs.Scope.Hulls.{Range, has_empty, fixed_range, wide_range, no_range, range_between, range_of, form_or_zero, bound_form, last_form}
 use Rattle.species_ast.specs.declared.tree.Test.{Test}
 use Rattle.species_ast.specs.declared.tree.Test.TheVariants as test

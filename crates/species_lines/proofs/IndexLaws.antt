@@ -1,5 +1,5 @@
 -- The indices of an access lie in the boxes of the reference that makes it.
-use Rattle.std.proofs.Common.{◌≡◌, refl, ap, sym, ◌∙◌, subst, arith, ℕ, zero, suc, ◌+◌, ◌<◌, ◌≤◌, Bool, true, false, nat_eq, nat_lt, if◌then◌else◌, List, [], ◌∷◌, ◌++◌, map, length, take, slice_index_or, ℤ, pos, ◌+ℤ◌, ◌-ℤ◌, ◌≤ℤ◌, Option, Some, None}
+use Rattle.std.proofs.Common.{◌≡◌, refl, sym, ◌∙◌, subst, arith, ℕ, zero, suc, ◌<◌, ◌≤◌, Bool, true, false, nat_eq, nat_lt, if◌then◌else◌, List, [], ◌∷◌, ◌++◌, map, length, take, slice_index_or, ℤ, pos, ◌-ℤ◌, Option, Some, None}
 use Rattle.std.proofs.Math.Nat.{one-dvd}
 use Rattle.std.proofs.lemmas.Int.{ints}
 use Rattle.std.proofs.lemmas.Bool.Decides.{nat_tests}
@@ -14,7 +14,7 @@ use Rattle.species_ast.specs.declared.tree.Loop.{Loop}
 use Rattle.species_ast.specs.Scope.Forms.{Form, form_value, sum_of}
 use Rattle.species_ast.specs.Scope.Hulls.{Range}
 use Rattle.species_linear.specs.Point.{point_of}
-use Rattle.species_linear.specs.Value.{sum_at, form_at, coefficient_at}
+use Rattle.species_linear.specs.Value.{sum_at, coefficient_at}
 use Rattle.species_linear.specs.declared.forms.Form as linear
 use Rattle.species_linear.specs.declared.forms.Term.{Term}
 use Rattle.species_linear.proofs.Agree.{sum_at-agree, agree_below}
@@ -25,7 +25,7 @@ use Rattle.species_merge.proofs.Folding.{all_of}
 use Rattle.species_merge.proofs.TermLemmas.{all_below, below_rising}
 use Rattle.species_occurrences.specs.Affine.{IsIndexOf, AreIndicesOf}
 use Rattle.species_occurrences.specs.Iterators.{AreTaken, ranges_of}
-use Rattle.species_references.specs.Boxes.{whole, IsBoxIn, AreBoxes}
+use Rattle.species_references.specs.Boxes.{IsBoxIn, AreBoxes}
 use Rattle.species_references.proofs.BoxLaws.{boxes_hold}
 use Rattle.species_runs.specs.Indices.{AreIndices}
 

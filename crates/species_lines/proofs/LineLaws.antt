@@ -1,23 +1,21 @@
 -- The arcs of references of a nest hold in each turn of the innermost loop of its band.
-use Rattle.std.proofs.Common.{◌≡◌, refl, ap, sym, ◌∙◌, subst, arith, ◌⊎◌, inl, inr, ℕ, zero, suc, ◌+◌, Bool, true, false, List, [], ◌∷◌, ◌++◌, map, length, drop, slice_index_or, ℤ, pos, Option, Some, None, All}
+use Rattle.std.proofs.Common.{◌≡◌, refl, ap, sym, ◌∙◌, subst, arith, inl, inr, ℕ, zero, suc, ◌+◌, List, [], ◌∷◌, ◌++◌, map, length, drop, slice_index_or, ℤ, pos, Option, Some, None, All}
 use Rattle.std.specs.Prelude.{IsTrue}
-use Rattle.std.specs.List.{Any, Contains}
+use Rattle.std.specs.List.{Any}
 use Rattle.std.proofs.lemmas.List.{length-append, length-map}
 use Rattle.species_arcs.specs.Pairwise.{Pairwise}
 use Rattle.species_arcs.proofs.PairwiseLaws.{pairwise_length}
 use Rattle.species_arcs.specs.Sets.{IsInSet, IsInDomain}
 use Rattle.species_arcs.specs.declared.places.Arc.{Arc}
 use Rattle.species_ast.specs.declared.tree.Loop.{Loop, out-Loop}
-use Rattle.species_ast.specs.declared.tree.Unit.{Unit as Program}
-use Rattle.species_ast.specs.Accesses.{Joins, Cells, Tree, Element, Access, Outcome, Ended, Stopped, IsDefined, run, accesses}
+use Rattle.species_ast.specs.Accesses.{Cells, Tree, Element, Access, Outcome, Ended, Stopped, IsDefined, run, accesses}
 use Rattle.species_ast.specs.Evaluation.{Frame, sizes_of}
 use Rattle.species_ast.specs.Run.{source_context}
 use Rattle.species_ast.specs.Scope.Forms.{Form}
 use Rattle.species_ast.specs.Scope.Hulls.{Range, range_of}
-use Rattle.species_ast.specs.Scope.References.{Reference, Adding, stmt_references, references_of}
+use Rattle.species_ast.specs.Scope.References.{Reference, references_of}
 use Rattle.species_ast.proofs.Induction.{Each}
 use Rattle.species_linear.specs.Point.{point_of}
-use Rattle.species_merge.specs.Arcs.{AreArcsOf}
 use Rattle.species_merge.specs.Bounds.{IsBoundOf}
 use Rattle.species_merge.specs.declared.bands.BandBound.{BandBound}
 use Rattle.species_merge.specs.Law.{AreInBoxes, IsHeld, IsValueAt, IsTouchedBy, AreSettled}
@@ -26,8 +24,7 @@ use Rattle.species_merge.proofs.ClassLemmas.{has_with, each_more}
 use Rattle.species_merge.proofs.SetLaws.{has_of, sets_hold_boxes, sets_lie_in_domains}
 use Rattle.species_merge.proofs.ExactLaws.{exact_sets_are_touched}
 use Rattle.species_merge.proofs.SettledLaws.{Inside, body_inside_loops, references_are_settled}
-use Rattle.species_nests.specs.Arrivals.{Running, turn_of}
-use Rattle.species_nests.specs.Nests.{nest_of}
+use Rattle.species_nests.specs.Arrivals.{turn_of}
 use Rattle.species_occurrences.specs.Affine.{AreIndicesOf}
 use Rattle.species_occurrences.specs.Iterators.{AreTaken, AreTheirs, ranges_of}
 use Rattle.species_occurrences.specs.Made.{IsMadeBy, IsMadeAmong, Begins, IsMade}
@@ -43,7 +40,7 @@ use Rattle.species_references.specs.References.{direction_of, IsReference}
 use Rattle.species_references.specs.declared.nest.Reference.{Reference as Held}
 use Rattle.species_references.proofs.TurnLaws.{references_have_turns}
 use Rattle.species_runs.proofs.EveryLaws.{every_access}
-use Rattle.species_lines.specs.Lines.{place_of, IsIn, IsTouch, Standing, standing_nest, band_loops, nest_references, LinesHold}
+use Rattle.species_lines.specs.Lines.{place_of, IsIn, IsTouch, standing_nest, band_loops, nest_references, LinesHold}
 use Rattle.species_lines.proofs.BetweenLaws.{AreBetween, band_holds}
 use Rattle.species_lines.proofs.IndexLaws.{indices_in_boxes}
 use Rattle.species_lines.proofs.LevelLaws.{running_named}

@@ -1,5 +1,5 @@
 -- Domains name no iterator of a band whose bounds name none.
-use Rattle.std.proofs.Common.{◌≡◌, refl, ap, sym, ◌∙◌, subst, arith, ℕ, zero, suc, ◌+◌, ◌-◌, ◌<◌, ◌≤◌, Bool, true, false, nat_lt, if◌then◌else◌, List, [], ◌∷◌, length, slice_index_or, ℤ, pos, ◌+ℤ◌, ◌≤ℤ◌, All}
+use Rattle.std.proofs.Common.{◌≡◌, refl, ap, sym, ◌∙◌, arith, ℕ, zero, suc, ◌+◌, ◌-◌, Bool, true, false, nat_lt, if◌then◌else◌, List, [], ◌∷◌, length, slice_index_or, ℤ, pos, ◌+ℤ◌, All}
 use Rattle.std.specs.Int.RustNames.{int_lt}
 use Rattle.std.proofs.lemmas.Int.{ints}
 use Rattle.std.proofs.lemmas.Bool.Decides.{nat_tests}
@@ -8,15 +8,14 @@ use Rattle.species_arcs.specs.Pairwise.{Pairwise}
 use Rattle.species_arcs.specs.Sets.{IsInDimDomain, IsInDomain}
 use Rattle.species_arcs.specs.declared.places.Arc.{Arc}
 use Rattle.species_arcs.specs.declared.places.ArcDim.{ArcDim}
-use Rattle.species_arcs.specs.declared.spans.Span.{Span}
 use Rattle.species_ast.proofs.Induction.{Each}
 use Rattle.species_linear.specs.Point.{Point}
 use Rattle.species_linear.specs.Value.{form_at, coefficient_at, NamesOnly}
 use Rattle.species_linear.specs.declared.forms.Form.{Form}
 use Rattle.species_linear.specs.declared.forms.Term.{Term}
 use Rattle.species_linear.proofs.Agree.{form_at-agree, form_at-agree_below}
-use Rattle.species_merge.specs.Arcs.{IsDimOf, AreDimsFrom, IsArcOf}
-use Rattle.species_merge.specs.Bands.{zero_form, no_bound, bound_at, end_form, ends_at, IsEndOf}
+use Rattle.species_merge.specs.Arcs.{AreDimsFrom, IsArcOf}
+use Rattle.species_merge.specs.Bands.{no_bound, bound_at, end_form, ends_at, IsEndOf}
 use Rattle.species_merge.specs.Classes.{Class, members, classes_of}
 use Rattle.species_merge.specs.declared.bands.BandBound.{BandBound}
 use Rattle.species_merge.proofs.Folding.{all_of}

@@ -1,6 +1,6 @@
 -- A form has coefficients of the iterators that its expression names alone.
-use Rattle.std.proofs.Common.{◌≡◌, refl, ap, sym, ◌∙◌, subst, arith, ℕ, zero, suc, ◌+◌, ◌<◌, ◌≤◌, Bool, true, false, ◌&&◌, nat_lt, if◌then◌else◌, List, [], ◌∷◌, ◌++◌, map, length, ℤ, pos, neg_ℤ, ◌+ℤ◌, ◌*ℤ◌, Option, Some, None}
-use Rattle.std.specs.Prelude.{is_some, option_and_then}
+use Rattle.std.proofs.Common.{◌≡◌, refl, ap, sym, ◌∙◌, subst, arith, ℕ, zero, suc, ◌≤◌, Bool, true, false, ◌&&◌, nat_lt, if◌then◌else◌, List, [], ◌∷◌, ◌++◌, map, length, ℤ, neg_ℤ, ◌+ℤ◌, ◌*ℤ◌, Option, Some, None}
+use Rattle.std.specs.Prelude.{is_some}
 use Rattle.std.specs.List.{list_all}
 use Rattle.std.proofs.lemmas.Bool.{and_parts}
 use Rattle.std.proofs.lemmas.Bool.Decides.{nat_tests}
@@ -14,7 +14,7 @@ use Rattle.species_ast.specs.declared.tree.Unary.{Unary}
 use Rattle.species_ast.specs.declared.tree.Unary.TheVariants as unary
 use Rattle.species_ast.specs.declared.tree.Value.{Value}
 use Rattle.species_ast.specs.declared.tree.Value.TheVariants as value
-use Rattle.species_ast.specs.Scope.Forms.{Form, sum_of, form_value, constant_form, one_at, iterator_form, added_coefficients, sum_form, scaled, negated, is_constant, is_within, limited, product_form, of_both, form_step, form_of, iterators_at, iterators_in}
+use Rattle.species_ast.specs.Scope.Forms.{Form, sum_of, form_value, constant_form, one_at, added_coefficients, sum_form, scaled, negated, is_constant, is_within, limited, product_form, of_both, form_step, form_of, iterators_at, iterators_in}
 use Rattle.species_ast.specs.Scope.Hulls.{form_or_zero, bound_form}
 use Rattle.species_ast.specs.Scope.WellMade.{is_made_bound}
 use Rattle.species_ast.proofs.Folds.{fold_expr-Literal, fold_expr-Iter, fold_expr-Local, fold_expr-Elem, fold_expr-Unary, fold_expr-Binary, fold_expr-And, fold_expr-Or, fold_expr-Cond, fold_expr-Cast}

@@ -1,7 +1,6 @@
 -- The innermost loop of a band has the nest's body, and its own references are those of the nest.
 use Rattle.std.proofs.Common.{◌≡◌, refl, ap, sym, ◌∙◌, ℕ, zero, suc, List, [], ◌∷◌, ◌++◌, map, Option, Some, None}
 use Rattle.species_ast.specs.declared.tree.Loop.{Loop, out-Loop}
-use Rattle.species_ast.specs.declared.tree.Stmt.{Stmt}
 use Rattle.species_ast.specs.Scope.Hulls.{Range, range_of}
 use Rattle.species_ast.specs.Scope.References.{Adding, list_references, stmt_references, references_of}
 use Rattle.species_nests.specs.Arrivals.{Running}
