@@ -76,6 +76,9 @@ drop_front zero (r ∷ path) more e = absurd (omega (arith, e))
 drop_front (suc n) [] more e = absurd (omega (arith, e))
 drop_front (suc n) (r ∷ path) more e = drop_front n path more (omega (arith, e))
 
+inner_loops : (n : ℕ) (path inner : List Range) (q : Reference) → q.path ≡ path ++ inner → length path ≡ n → drop n q.path ≡ inner
+inner_loops n path inner q e long = subst (λ p. drop n p ≡ inner) (sym e) (drop_front n path inner long)
+
 -- ---- the arc of an access
 
 -- in the boxes of the reference, which stands in loops inside those of the band
@@ -131,6 +134,15 @@ made_among : (sizes : ℕ → List ℕ) (qs : List Reference) (q : Reference) (a
 made_among sizes [] q a one by = absurd one
 made_among sizes (x ∷ qs) q a (inl e) by = inl (subst (λ z. IsMadeBy sizes z a) e by)
 made_among sizes (x ∷ qs) q a (inr one) by = inr (made_among sizes qs q a one by)
+
+touched : (sizes : ℕ → List ℕ) (qs : List Reference) (q : Reference) (c : Arc) (iters inner place : List ℤ) (a : Access) → IsOneOf q qs → q.array ≡ c.array → q.direction ≡ direction_of c.dir
+    → Pairwise (IsValueAt (iters ++ inner)) q.subs place → IsDoneAt sizes (iters ++ inner) q a → IsTouch sizes qs c place a
+touched sizes qs q c iters inner place a one array direction values h = record {
+  made = made_among sizes qs q a one h.0;
+  array = ap (λ (e : Element). e.array) h.0.element ∙ array;
+  direction = h.0.direction ∙ direction;
+  stands = same_place q.subs a.site.indices (iters ++ inner) place (subst (λ xs. AreIndicesOf q.subs xs a.site.indices) h.1 h.0.forms) values;
+}
 
 -- the reference that touches a place
 find_touch : (P : Reference → Type 0) (own qs : List Reference) → Each (λ q. IsOneOf q own) qs → Has P qs → (q : Reference) × IsOneOf q qs × IsOneOf q own × P q
@@ -256,8 +268,7 @@ lines_hold join u m r adds s qs arcs t well comes inner regular nest turns = rec
         let q = found.0 in
         let by = found.3 in
         let owed = nest_fulfilled (source_context u) adds 0 r.loop r.at around regular q (subst (IsOneOf q) same found.2) by.always in
-        let rest : drop (length s.around + length nest.bands) q.path ≡ owed.0 =
-        ap (drop (length s.around + length nest.bands)) owed.1 ∙ drop_front (length s.around + length nest.bands) path owed.0 (sym top) in
+        let rest = inner_loops (length s.around + length nest.bands) path owed.0 q owed.1 (sym top) in
         let sure = owed.2 iters by.inner taken their.0.1 (subst AreConstant rest by.constant) (subst (λ p. AreTaken p by.inner) rest by.taken) t.frame refl in
         let end = ended_so (run join does t.arrays) ended in
         let has = surely_has join (IsDoneAt sizes (iters ++ by.inner) q) does t.arrays end.0 end.1 sure end.2 in (
@@ -265,12 +276,7 @@ lines_hold join u m r adds s qs arcs t well comes inner regular nest turns = rec
           has.0,
           has.1.1,
           has.1.2,
-          record {
-            made = made_among sizes qs q has.0 found.1 has.2.0;
-            array = ap (λ (e : Element). e.array) has.2.0.element ∙ by.array;
-            direction = has.2.0.direction ∙ by.direction;
-            stands = same_place q.subs has.0.site.indices (iters ++ by.inner) place (subst (λ xs. AreIndicesOf q.subs xs has.0.site.indices) has.2.1 has.2.0.forms) by.indices;
-          },
+          touched sizes qs q c iters by.inner place has.0 found.1 by.array by.direction by.indices has.2,
         )
 
     fill : IsDefined (run join does t.arrays) → Each (λ c. IsTrue c.exact → (place : List ℤ) → IsInSet c (point_of iters) place → Any (IsTouch sizes qs c place) done) arcs

@@ -46,7 +46,7 @@ use Rattle.species_merge.specs.Hulls.{IsHullOf, gaps_of, own_stride}
 use Rattle.species_merge.specs.Classes.{terms_of, terms_below, terms_from, Class, members, classes_of, box_at, box_in, column}
 use Rattle.species_merge.specs.Exact.{is_affine, is_free, is_constant_loop, is_regular, Fills}
 use Rattle.species_merge.specs.Arcs.{added_in, AreDimsFrom, IsArcOf}
-use Rattle.species_merge.specs.Law.{IsSettled, AreSettled, IsValueAt, IsTouchedBy, ExactSetsAreTouched}
+use Rattle.species_merge.specs.Law.{IsFullyTaken, AreSettled, IsValueAt, IsTouchedBy, ExactSetsAreTouched}
 use Rattle.species_merge.specs.declared.bands.BandBound.{BandBound}
 
 -- ---- all dimensions at once
@@ -240,7 +240,7 @@ each_true : {X : Type 0} (test : X → Bool) (xs : List X) → list_all test xs 
 each_true test [] h = tt
 each_true test (x ∷ xs) h = let parts = both_true (test x) (list_all test xs) h in (parts.0, each_true test xs parts.1)
 
-pub whole_loops : (path : List Range) → has_empty path ≡ false → All (λ r. IsTrue (has_constant_bounds r) → r.low ≤ℤ r.high → IsSettled r) path → Each (λ r. has_constant_bounds r ≡ true) path → AreWhole path
+pub whole_loops : (path : List Range) → has_empty path ≡ false → All (λ r. IsTrue (has_constant_bounds r) → r.low ≤ℤ r.high → IsFullyTaken r) path → Each (λ r. has_constant_bounds r ≡ true) path → AreWhole path
 whole_loops [] full settled constant = tt
 whole_loops (r ∷ path) full settled constant =
     let parts = both_false (is_empty r) (has_empty path) full in

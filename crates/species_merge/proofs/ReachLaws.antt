@@ -17,12 +17,12 @@ use Rattle.species_occurrences.specs.Iterators.{MayTake, AreTaken}
 use Rattle.species_references.specs.Boxes.{inner_part, unit_of, gap_of, gaps_of, IsGcdOf, IsBoxOf}
 use Rattle.species_merge.proofs.Divides.{dvd_at, dvd_nothing, dvd_ways, dvd_turned, dvd_through, same_or_not}
 use Rattle.species_merge.proofs.Folding.{Each, each_of, all_of}
-use Rattle.species_merge.specs.Law.{IsSettled}
+use Rattle.species_merge.specs.Law.{IsFullyTaken}
 
 -- a range that is not empty, all of whose numbers in whole units are taken
 pub record IsWhole (r : Range) : Type 0 where
   pub some : r.low ≤ℤ r.high
-  pub settled : IsSettled r
+  pub settled : IsFullyTaken r
 
 abbrev pub AreWhole : List Range → Type 0
 AreWhole path = Each IsWhole path

@@ -21,12 +21,12 @@ use Rattle.species_occurrences.specs.Iterators.{ranges_of}
 use Rattle.species_references.specs.Boxes.{has_constant_bounds}
 use Rattle.species_references.proofs.TurnLaws.{each_to_all}
 use Rattle.species_merge.proofs.Divides.{dvd_at, dvd_turned, dvd_ways}
-use Rattle.species_merge.specs.Law.{IsSettled, AreSettled, ReferencesAreSettled}
+use Rattle.species_merge.specs.Law.{IsFullyTaken, AreSettled, ReferencesAreSettled}
 
 -- ---- the range of a loop
 
 abbrev Settles : Range → Type 0
-Settles r = IsTrue (has_constant_bounds r) → r.low ≤ℤ r.high → IsSettled r
+Settles r = IsTrue (has_constant_bounds r) → r.low ≤ℤ r.high → IsFullyTaken r
 
 quotient : (d n : ℕ) → d ∣ n → (k : ℕ) × (n ≡ k * d)
 quotient d n h = (n / d, omega (arith, div-add-mod' n d, mod-eq-zero_of_dvd d h))
@@ -41,7 +41,7 @@ above : (x y : ℤ) (k : ℕ) → y ≤ℤ x → unsigned_abs (x -ℤ y) ≡ k �
 above x y k p e = grind (arith, ints)
 
 up_settled : (n : ℕ) (first high : ℤ) (k : ℕ) → high ≡ first +ℤ pos (k * n) → first ≤ℤ high
-    → IsSettled (record { low = first; high = high; step = pos n; start = Some first; fixed = true })
+    → IsFullyTaken (record { low = first; high = high; step = pos n; start = Some first; fixed = true })
 up_settled n first high k e some = record {
   whole = dvd_at n (pos (k * n)) (high -ℤ first) (omega (arith, ints, e)) (dvd-mul_left n k);
   taken = λ i from to unit.
@@ -50,7 +50,7 @@ up_settled n first high k e some = record {
 }
 
 down_settled : (m : ℕ) (first low : ℤ) (k : ℕ) → low ≡ first -ℤ pos (k * suc m) → low ≤ℤ first
-    → IsSettled (record { low = low; high = first; step = negsuc m; start = Some first; fixed = true })
+    → IsFullyTaken (record { low = low; high = first; step = negsuc m; start = Some first; fixed = true })
 down_settled m first low k e some = record {
   whole = way;
   taken = λ i from to unit.
@@ -69,7 +69,7 @@ fixed_settles (pos n) first last constant some = go (int_le first last) refl som
     k = unsigned_abs (last -ℤ first) / n
 
     go : (t : Bool) → int_le first last ≡ t → first ≤ℤ (if t then last_value (pos n) first last else last)
-        → IsSettled (record { low = first; high = if t then last_value (pos n) first last else last; step = pos n; start = Some first; fixed = true })
+        → IsFullyTaken (record { low = first; high = if t then last_value (pos n) first last else last; step = pos n; start = Some first; fixed = true })
     go true is h = up_settled n first (last_value (pos n) first last) k (ap (λ z. first +ℤ z) (steps_up k n)) h
     go false is h = absurd (clash h (grind (arith, ints, is)))
       where
@@ -81,7 +81,7 @@ fixed_settles (negsuc m) first last constant some = go (int_le last first) refl 
     k = unsigned_abs (last -ℤ first) / suc m
 
     go : (t : Bool) → int_le last first ≡ t → (if t then last_value (negsuc m) first last else last) ≤ℤ first
-        → IsSettled (record { low = if t then last_value (negsuc m) first last else last; high = first; step = negsuc m; start = Some first; fixed = true })
+        → IsFullyTaken (record { low = if t then last_value (negsuc m) first last else last; high = first; step = negsuc m; start = Some first; fixed = true })
     go true is h = down_settled m first (last_value (negsuc m) first last) k (omega (arith, ints, steps_down k m)) h
     go false is h = absurd (clash h (grind (arith, ints, is)))
       where

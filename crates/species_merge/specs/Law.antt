@@ -81,21 +81,21 @@ pub record IsTouchedBy (top : ℕ) (iters place : List ℤ) (a : Arc) (q : text.
   pub indices : Pairwise (IsValueAt (iters ++ inner)) q.subs place
 
 -- A range whose numbers, from the least to the greatest in whole units, are values that its iterator may take.
-pub record IsSettled (r : Range) : Type 0 where
+pub record IsFullyTaken (r : Range) : Type 0 where
   pub whole : unit_of r ∣ unsigned_abs (r.high -ℤ r.low)
   pub taken : (i : ℤ) → r.low ≤ℤ i → i ≤ℤ r.high → unit_of r ∣ unsigned_abs (i -ℤ r.low) → MayTake r i
 
 -- Around the reference, from this level on, each range from a constant to a constant is such a one, if it is not empty.
 abbrev pub AreSettled : ℕ → text.Reference → Type 0
-AreSettled inner q = All (λ r. IsTrue (has_constant_bounds r) → r.low ≤ℤ r.high → IsSettled r) (drop inner q.path)
+AreSettled inner q = All (λ r. IsTrue (has_constant_bounds r) → r.low ≤ℤ r.high → IsFullyTaken r) (drop inner q.path)
 
 -- So it is of the references of a nest.
 abbrev pub ReferencesAreSettled : Type 0
 ReferencesAreSettled = (adds : text.Adding) (head : Loop) (at : List ℕ) (path : List Range) (depth : ℕ)
     → All (AreSettled (length path + depth)) (text.references_of adds head at path depth)
 
--- Then each place of the set of an exact arc is touched by one of the references, whatever the iterators of the loops around the nest
--- and of its band are.
+-- Then each place of the set of an exact arc is touched by one of the references, at any values of the iterators outside the inner
+-- loops.
 abbrev pub ExactSetsAreTouched : Type 0
 ExactSetsAreTouched = (sizes : ℕ → List ℕ) (outer : ℕ) (bands : List BandBound) (rs : List Reference) (qs : List text.Reference) (arcs : List Arc)
     (iters place : List ℤ) → Pairwise (IsReference sizes (outer + length bands)) rs qs → All (HasTurns (outer + length bands)) qs
