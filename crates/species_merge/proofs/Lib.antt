@@ -9,3 +9,9 @@ pub mod SmallBoxes
 pub mod BandLemmas
 pub mod ArcLemmas
 pub mod TestLemmas
+pub mod SetLaws
+pub mod ReachLaws
+pub mod FreeLaws
+pub mod ExactLaws
+pub mod SettledLaws
+pub mod BoundLemmas

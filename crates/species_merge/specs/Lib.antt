@@ -6,3 +6,5 @@ pub mod Bands
 pub mod Exact
 pub mod Arcs
 pub mod Sizes
+pub mod Law
+pub mod Bounds
