@@ -1,0 +1,2 @@
+//! The table of arcs.
+#![tactic(auto)]
