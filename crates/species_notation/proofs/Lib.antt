@@ -13,5 +13,6 @@ pub mod ReasonsBack
 pub mod ReadBack
 pub mod Texts
 pub mod ArcTexts
+mod TableTexts
 pub mod Turns
 pub mod Totals

@@ -25,7 +25,7 @@ use Rattle.species_notation.specs.declared.raw.RawLine.{RawLine}
 use Rattle.species_notation.specs.declared.raw.RawLine.TheVariants as line
 use Rattle.species_notation.specs.declared.given.Names.{Names}
 use Rattle.species_notation.specs.Parts.{Piece, Solid, Space, text_of}
-use Rattle.species_notation.specs.Spelled.{RawOffset, first_parts, next_parts, arc_front, arc_forms, mark_text}
+use Rattle.species_notation.specs.Spelled.{RawOffset, first_parts, next_parts, range_parts, offsets_parts, listed_parts, word_text, arc_front, arc_forms, mark_text}
 
 -- ---- what is written, part by part
 
@@ -156,6 +156,49 @@ line_pieces (line.Carried w m n) =
     words_apart (part.Name (codes "sequential") ∷ part.Name (codes "carried") ∷ part.Name w ∷ part.Number m ∷ part.Number n ∷ [])
 line_pieces (line.Local w) = words_apart (part.Name (codes "sequential") ∷ part.Name (codes "local") ∷ part.Name w ∷ [])
 line_pieces (line.Sides l r) = side_pieces l ++ (spaced part.Arrow ++ side_pieces r)
+
+-- ---- a line of the table of arcs
+
+abbrev pub dir_text : Dir → List ℕ
+dir_text dir.Read = codes "read"
+dir_text dir.Write = codes "write"
+dir_text dir.Add = codes "add"
+
+-- the array and its domain
+abbrev pub arc_domain : RawArc → List Part
+arc_domain a = part.Name a.name ∷ part.Sign 91 ∷ (listed_parts 44 range_parts a.ranges ++ part.Sign 93 ∷ [])
+
+-- the word and the offsets
+abbrev pub arc_shape : RawArc → List Part
+arc_shape a = part.Sign 124 ∷ part.Name (word_text a.word) ∷ offsets_parts a.offsets
+
+-- what stands behind the domain
+abbrev pub arc_tail : RawArc → List Piece
+arc_tail a =
+    map Solid (arc_shape a) ++ (spaced (part.Name (codes "at")) ++ (map Solid (arc_forms a) ++ Space ∷ Solid (part.Name (mark_text a.exact)) ∷ []))
+
+abbrev pub number_parts : ℕ → List Part
+number_parts n = part.Number n ∷ []
+
+-- a word, and numbers in brackets
+abbrev pub numbers_pieces : List ℕ → List ℕ → List Piece
+numbers_pieces w ns = spaced (part.Name w) ++ map Solid (part.Sign 40 ∷ (listed_parts 44 number_parts ns ++ part.Sign 41 ∷ []))
+
+-- how many places each dimension has, and how far it moves from one iteration to the next
+abbrev pub sizes_pieces : List ArcDim → List Piece
+sizes_pieces ds = numbers_pieces (codes "elements") (map (λ d. d.elements) ds) ++ numbers_pieces (codes "step") (map (λ d. d.step) ds)
+
+-- the number of a reference, what it does, and its array and domain
+abbrev pub table_front : ℕ → Dir → RawArc → List Piece
+table_front number d a = Solid (part.Number number) ∷ (spaced (part.Name (dir_text d)) ++ map Solid (arc_domain a))
+
+abbrev pub table_pieces : Names → ℕ → Arc → List Piece
+table_pieces names number a =
+    table_front number a.dir (written_arc names a) ++ (sizes_pieces a.dims ++ arc_tail (written_arc names a))
+
+-- The text of the line of a reference with this number and arc in the table of arcs, without its line feed.
+unfoldable pub table_line_text : Names → ℕ → Arc → List ℕ
+table_line_text names number a = text_of (table_pieces names number a)
 
 -- The text of an arc.
 unfoldable pub arc_text : Names → Arc → List ℕ

@@ -8,9 +8,11 @@ mod parts;
 mod raw;
 mod reading;
 mod refusal;
+mod table;
 mod writing;
 
 pub use given::{GivenArc, GivenDim, Names, SpeciesLine};
 pub use law::law_notation;
 pub use refusal::NotationRefusal;
+pub use table::write_table_line;
 pub use writing::{write_arc, write_line};
