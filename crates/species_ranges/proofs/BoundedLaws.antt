@@ -30,10 +30,9 @@ use Rattle.species_ast.proofs.Folds.{fold_expr-Elem, fold_expr-Unary, fold_expr-
 use Rattle.species_ast.proofs.Induction.{Each, each_all, expr_ind, stmt_ind}
 use Rattle.species_ast.proofs.Paras.{para_expr-Literal, para_expr-Iter, para_expr-Local, para_expr-Unary, para_expr-Binary, para_expr-And, para_expr-Or, para_expr-Cond, para_expr-Cast, para_stmt-Assign, para_stmt-AddTo, para_stmt-Declare, para_stmt-SetLocal}
 use Rattle.species_ast.proofs.ReferenceLaws.{elements_of-Elem}
-use Rattle.species_occurrences.proofs.RunningTaken.{each_contains}
 use Rattle.species_occurrences.proofs.PositionLaws.{each_append, each_weaker}
 use Rattle.species_ranges.proofs.KeepLaws.{KeepsHead, keeps_head, KeepsIn, unit_outermost}
-use Rattle.species_ranges.proofs.OutermostLaws.{outermost-If, outermost-For, outermost-Block}
+use Rattle.species_ranges.proofs.OutermostLaws.{outermost-If, outermost-For, outermost-Block, each_contains}
 use Rattle.species_ranges.proofs.SmallLaws.{IsSmallRange, small_range}
 
 -- ---- what is known of a reference

@@ -57,7 +57,7 @@ next_ranges all i x path old now new at within h e =
     ∙ ap (λ l. old ++ l) (sym (ranges-snoc (take i all) x path) ∙ ap (λ xs. ranges_in_list xs path) (sym items))
 
 pub all_ranges : (all : List Stmt) (i : ℕ) (path old new : List Range) → length all ≤ i → new ≡ old ++ ranges_in_list (take i all) path → new ≡ old ++ ranges_in_list all path
-all_ranges all i path old new past_end h = h ∙ ap (λ xs. old ++ ranges_in_list xs path) (take_all all i past_end)
+all_ranges all i path old new past_end h = h ∙ ap (λ xs. old ++ ranges_in_list xs path) (take_all i all past_end)
 
 pub fits_there : (all : List Stmt) (i : ℕ) (x : Stmt) (path : List Range) → x ≡ get_or all i x → i < length all → fits_in_list all path ≡ true → fits_in x path ≡ true
 fits_there [] i x path at within h = absurd (omega (arith, within))
