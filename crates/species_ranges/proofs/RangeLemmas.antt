@@ -9,6 +9,7 @@ use Rattle.species_ast.specs.declared.tree.Stmt.TheVariants as stmt
 use Rattle.species_ast.specs.declared.tree.Loop.{Loop, out-Loop}
 use Rattle.species_ast.specs.Scope.Hulls.{Range, range_of, passes_hull}
 use Rattle.species_ast.proofs.Folds.{fold_stmt-Assign, fold_stmt-AddTo, fold_stmt-Declare, fold_stmt-SetLocal, fold_stmt-If, fold_stmt-For, fold_stmt-Block, fold_loop-out}
+use Rattle.species_linear.specs.Box.{zero_range, range_at}
 use Rattle.species_linear.specs.declared.loops.LoopRange.{LoopRange}
 use Rattle.species_references.specs.Ranges.{range_seen, ranges_seen, ranges_at, ranges_within, ranges_in, ranges_in_list, ranges_in_loop}
 use Rattle.species_ranges.specs.Fitting.{fits_at, fits_within, fits_in, fits_in_list, fits_in_loop}
@@ -30,10 +31,11 @@ all_more P (x ∷ xs) y h p zero d l = h 0 d (omega arith)
 all_more P (x ∷ xs) y h p (suc k) d l = all_more P xs y (λ j e m. h (suc j) e (omega (arith, m))) p k d (omega (arith, l))
 
 -- one loop further
-pub seen_next : (all : List LoopRange) (i : ℕ) (x : LoopRange) (now new : List Range) → x ≡ get_or all i x → i < length all → length all ≤ 16 → now ≡ ranges_seen (take i all)
-    → (length now < 16 → new ≡ now ++ range_seen x ∷ []) → new ≡ ranges_seen (take (i + 1) all)
-seen_next all i x now new at within short h e =
-    let items : take (i + 1) all ≡ take i all ++ x ∷ [] = take_more all i x within ∙ ap (λ y. take i all ++ y ∷ []) (sym at) in
+pub seen_next : (all : List LoopRange) (i : ℕ) (now new : List Range) → i < length all → length all ≤ 16 → now ≡ ranges_seen (take i all)
+    → (length now < 16 → new ≡ now ++ range_seen (range_at all i) ∷ []) → new ≡ ranges_seen (take (i + 1) all)
+seen_next all i now new within short h e =
+    let x = range_at all i in
+    let items : take (i + 1) all ≡ take i all ++ x ∷ [] = take_more all i zero_range within in
     let count : length now ≡ length (take i all) = ap length h ∙ seen_length (take i all) in
     let few : length (take i all) ≤ i = take_few all i in
     e (omega (arith, count, few, within, short)) ∙ ap (λ l. l ++ range_seen x ∷ []) h ∙ sym (seen_more (take i all) x) ∙ ap ranges_seen (sym items)

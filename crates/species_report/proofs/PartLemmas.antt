@@ -18,21 +18,23 @@ use Rattle.species_ast.specs.Scope.References.{no_adds, references_of, reference
 use Rattle.species_ast.specs.Scope.Refusals.{places_where}
 use Rattle.species_ast.specs.Scope.WellMade.{IsWellMade}
 use Rattle.species_ast.proofs.Folds.{fold_loop-out}
-use Rattle.species_ast.proofs.Induction.{Each}
 use Rattle.species_linear.specs.declared.loops.LoopRange.{LoopRange}
-use Rattle.species_merge.specs.Arcs.{AreArcsOf, IsArcOf}
-use Rattle.species_merge.specs.Classes.{classes_of}
+use Rattle.species_merge.specs.Arcs.{AreArcsOf}
+use Rattle.species_merge.specs.Bounds.{IsBoundOf}
 use Rattle.species_merge.specs.Sizes.{IsMergeable}
 use Rattle.species_merge.specs.declared.bands.BandBound.{BandBound}
 use Rattle.species_notation.specs.Written.{table_line_text}
 use Rattle.species_notation.specs.declared.given.Names.{Names}
+use Rattle.species_ranges.proofs.BoundedLaws.{outermost_bounded}
+use Rattle.species_references.specs.Law.{HasTurns}
 use Rattle.species_references.specs.Ranges.{range_seen, ranges_seen, ranges_at, ranges_within, ranges_in_list, ranges_in_loop}
-use Rattle.species_references.specs.References.{IsReference, AreNumberedFrom}
 use Rattle.species_references.specs.declared.nest.Reference.{Reference}
+use Rattle.species_references.proofs.TurnLaws.{each_to_all, references_have_turns}
 use Rattle.species_report.specs.Heads.{loops_seen}
 use Rattle.species_report.specs.Parts.{HaveLines, HaveParts}
 use Rattle.species_report.specs.Table.{joined, names_in, place_line, AreOfNest, IsLineOf, IsOfLoop, IsTable}
 use Rattle.species_report.proofs.HeadLemmas.{seen_more}
+use Rattle.species_report.proofs.MergeableLaws.{each_of_all, all_mergeable}
 
 -- ---- lists
 
@@ -140,3 +142,30 @@ few_places (x ∷ ls) most h l there = go (λ e c. few_places ls most e l c) (na
 -- a loop that stands in no other has few references
 pub few_references : (u : Program) (head : Loop) → IsWellMade u → Contains (outermost_loops u) head → length (references_of no_adds head [] [] 1) < 2 ^ 32
 few_references u head well there = let few = few_places (outermost_loops u) most_references_made well.references head there in omega (arith, few)
+
+pub part_is : (u : Program) (head : Loop) (names : Names) (bound : BandBound) (refs : List Reference) (lines text : List ℕ) → names ≡ names_in u head → IsBoundOf (out-Loop head) bound → AreOfNest u head refs
+    → HaveLines names bound refs lines → text ≡ place_line (out-Loop head).place ++ lines → IsOfLoop u head text
+part_is u head names bound refs lines text same ends plain h is =
+    let here = subst (λ n. HaveLines n bound refs lines) same h in
+    record { bound = bound; references = refs; lines = here.lines; ends = ends; plain = plain; each = here.each; is = is ∙ ap (λ l. place_line (out-Loop head).place ++ l) here.is }
+
+-- ---- names
+
+pub names_next : (all : List Array) (i : ℕ) (a : Array) (now new : List (List ℕ)) → a ≡ get_or all i a → i < length all → now ≡ map (λ x. x.name) (take i all) → new ≡ now ++ a.name ∷ [] → new ≡ map (λ x. x.name) (take (i + 1) all)
+names_next all i a now new at within h e =
+    let items : take (i + 1) all ≡ take i all ++ a ∷ [] = take_more all i a within ∙ ap (λ y. take i all ++ y ∷ []) (sym at) in
+    e ∙ ap (λ l. l ++ a.name ∷ []) h ∙ sym (more (take i all) a) ∙ ap (map (λ (x : Array). x.name)) (sym items)
+  where
+    more : (xs : List Array) (y : Array) → map (λ x. x.name) (xs ++ y ∷ []) ≡ map (λ x. x.name) xs ++ y.name ∷ []
+    more [] y = refl
+    more (x ∷ xs) y = ap (λ l. x.name ∷ l) (more xs y)
+
+pub names_are : (u : Program) (head : Loop) (old new : Names) → new ≡ record old { iters = (out-Loop head).iter ∷ [] } → old.arrays ≡ map (λ a. a.name) u.arrays → old.locals ≡ [] → new ≡ names_in u head
+names_are u head old new e arrays locals = e ∙ (λ i. record { arrays = arrays i; iters = (out-Loop head).iter ∷ []; locals = locals i })
+
+-- ---- the references of a nest
+
+pub nest_mergeable : (u : Program) (head : Loop) (refs : List Reference) → IsWellMade u → Contains (outermost_loops u) head → AreOfNest u head refs → All IsMergeable refs
+nest_mergeable u head refs well there nest =
+    let qs = references_of no_adds head [] [] 1 in
+    each_to_all IsMergeable refs (all_mergeable u 1 refs qs (nest.shown []) (outermost_bounded no_adds u head [] 1 well there) (each_of_all (HasTurns 1) qs (references_have_turns no_adds head [] [] 1)))
