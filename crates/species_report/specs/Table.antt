@@ -36,10 +36,10 @@ pub record AreOfNest (u : Program) (head : Loop) (refs : List Reference) : Type 
   pub numbered : AreNumberedFrom 0 refs
 
 -- The line of a reference, with its line feed: its number, and the arc of the class that has it alone, over a band with this bound.
-pub record IsLineOf (names : Names) (bound : BandBound) (r : Reference) (text : List ℕ) : Type 0 where
+pub record IsLineOf (names : Names) (bound : BandBound) (r : Reference) (line : List ℕ) : Type 0 where
   pub arc : Arc
   pub alone : AreArcsOf 0 (bound ∷ []) (r ∷ []) (arc ∷ [])
-  pub text : text ≡ table_line_text names r.number arc ++ codes "\n"
+  pub text : line ≡ table_line_text names r.number arc ++ codes "\n"
 
 -- What the table has of a loop: its place, and a line for each reference of its nest.
 pub record IsOfLoop (u : Program) (head : Loop) (text : List ℕ) : Type 0 where

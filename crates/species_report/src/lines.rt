@@ -14,6 +14,7 @@ use std::alloc::Global;
 use std::slice::from_ref;
 
 /// The line of a reference, with the arc that it has alone.
+#[tactic(auto, using(crate::proofs::PartLemmas::line_is))]
 fn line_of(
     alloc: Global,
     bound: &BandBound,

@@ -63,6 +63,7 @@ fn nest_of(alloc: Global, unit: &Unit, head: &Loop) -> Result<Nest, OutOfMemory>
 }
 
 /// What the table has of a loop that stands in no other.
+#[tactic(auto, using(crate::proofs::PartLemmas::part_is))]
 fn part_of(alloc: Global, unit: &Unit, head: &Loop, names: &Names) -> Result<Vec<u8>, OutOfMemory>
     requires made { IsWellMade unit.now }
     requires there { Contains (outermost_loops unit.now) head.now }

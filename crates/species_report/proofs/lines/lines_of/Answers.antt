@@ -4,8 +4,5 @@ use Rattle.species_report.proofs.lines.lines_of.Goals as goal
 pub loop-reference-init : goal.loop-reference-init
 loop-reference-init c = no_lines c.args.names.now c.args.bound.now
 
-pub loop-reference-preserved : goal.loop-reference-preserved
-loop-reference-preserved c = ?
-
 pub returns : goal.returns
 returns c = all_lines c.args.names.now c.args.bound.now c.args.references.now c.loop-reference.reference-index c.loop-reference.text.items c.loop-reference-test.false c.loop-reference.invariant

@@ -1,4 +1,3 @@
-use Rattle.species_report.proofs.PartLemmas.{few_references, nest_mergeable}
 use Rattle.species_report.proofs.table.nest_of.Goals as goal
 
 pub returns-clause-mergeable : goal.returns-clause-mergeable
