@@ -18,6 +18,7 @@ use Rattle.species_ast.specs.Scope.References.{no_adds, references_of, reference
 use Rattle.species_ast.specs.Scope.Refusals.{places_where}
 use Rattle.species_ast.specs.Scope.WellMade.{IsWellMade}
 use Rattle.species_ast.proofs.Folds.{fold_loop-out}
+use Rattle.species_linear.specs.Box.{HasSmallEnds}
 use Rattle.species_linear.specs.declared.loops.LoopRange.{LoopRange}
 use Rattle.species_merge.specs.Arcs.{AreArcsOf}
 use Rattle.species_merge.specs.Bounds.{IsBoundOf}
@@ -25,14 +26,16 @@ use Rattle.species_merge.specs.Sizes.{IsMergeable}
 use Rattle.species_merge.specs.declared.bands.BandBound.{BandBound}
 use Rattle.species_notation.specs.Written.{table_line_text}
 use Rattle.species_notation.specs.declared.given.Names.{Names}
+use Rattle.species_ranges.specs.Fitting.{fits_in_loop}
 use Rattle.species_ranges.proofs.BoundedLaws.{outermost_bounded}
+use Rattle.species_ranges.proofs.KeepLaws.{outermost_fit}
 use Rattle.species_references.specs.Law.{HasTurns}
 use Rattle.species_references.specs.Ranges.{range_seen, ranges_seen, ranges_at, ranges_within, ranges_in_list, ranges_in_loop}
 use Rattle.species_references.specs.declared.nest.Reference.{Reference}
 use Rattle.species_references.proofs.TurnLaws.{each_to_all, references_have_turns}
 use Rattle.species_report.specs.Heads.{loops_seen}
-use Rattle.species_report.specs.Parts.{HaveLines, HaveParts}
-use Rattle.species_report.specs.Table.{joined, names_in, place_line, AreOfNest, IsLineOf, IsOfLoop, IsTable}
+use Rattle.species_report.specs.Lines.{HaveLines}
+use Rattle.species_report.specs.Table.{joined, names_in, place_line, AreOfNest, IsLineOf, IsOfLoop, HaveParts, IsTable}
 use Rattle.species_report.proofs.HeadLemmas.{seen_more}
 use Rattle.species_report.proofs.MergeableLaws.{each_of_all, all_mergeable}
 
@@ -103,8 +106,7 @@ parts_next u all i b text part new at within h is e =
 pub table_is : (u : Program) (all : List (Bor Loop)) (i : ℕ) (text : List ℕ) → length all ≤ i → loops_seen all ≡ outermost_loops u → HaveParts u (loops_seen (take i all)) text → IsTable u text
 table_is u all i text past_end heads h =
     let same : loops_seen (take i all) ≡ outermost_loops u = ap loops_seen (take_all i all past_end) ∙ heads in
-    let whole = subst (λ ls. HaveParts u ls text) same h in
-    record { parts = whole.parts; each = whole.each; is = whole.is }
+    subst (λ ls. HaveParts u ls text) same h
 
 seen_at : (all : List (Bor Loop)) (i : ℕ) (b : Bor Loop) (d : Loop) → b ≡ get_or all i b → i < length all → (i < length (loops_seen all)) × (slice_index_or (loops_seen all) i d ≡ b.now)
 seen_at [] i b d at within = absurd (omega (arith, within))
@@ -169,3 +171,11 @@ pub nest_mergeable : (u : Program) (head : Loop) (refs : List Reference) → IsW
 nest_mergeable u head refs well there nest =
     let qs = references_of no_adds head [] [] 1 in
     each_to_all IsMergeable refs (all_mergeable u 1 refs qs (nest.shown []) (outermost_bounded no_adds u head [] 1 well there) (each_of_all (HasTurns 1) qs (references_have_turns no_adds head [] [] 1)))
+
+-- ---- the ranges of a nest
+
+pub head_fits : (u : Program) (head : Loop) → IsWellMade u → Contains (outermost_loops u) head → fits_in_loop head [] ≡ true
+head_fits u head well there = subst (λ l. fits_in_loop l [] ≡ true) there.2 (outermost_fit u well there.0 head there.1)
+
+pub first_ends : (found : List LoopRange) (d : LoopRange) → 0 < length found → All HasSmallEnds found → HasSmallEnds (slice_index_or found 0 d)
+first_ends found d some h = h 0 d some

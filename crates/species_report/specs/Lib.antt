@@ -1,3 +1,3 @@
 pub mod Table
 pub mod Heads
-pub mod Parts
+pub mod Lines

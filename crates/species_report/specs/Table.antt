@@ -51,8 +51,12 @@ pub record IsOfLoop (u : Program) (head : Loop) (text : List ℕ) : Type 0 where
   pub each : Pairwise (IsLineOf (names_in u head) bound) references lines
   pub is : text ≡ place_line (out-Loop head).place ++ joined lines
 
--- The text has this of each loop of the unit that stands in no other, in their order, and nothing more.
-pub record IsTable (u : Program) (text : List ℕ) : Type 0 where
+-- The text has what the table has of each of these loops, in their order, and nothing more.
+pub record HaveParts (u : Program) (heads : List Loop) (text : List ℕ) : Type 0 where
   pub parts : List (List ℕ)
-  pub each : Pairwise (IsOfLoop u) (outermost_loops u) parts
+  pub each : Pairwise (IsOfLoop u) heads parts
   pub is : text ≡ joined parts
+
+-- The table of a unit has those of the loops that stand in no other.
+abbrev pub IsTable : Program → List ℕ → Type 0
+IsTable u text = HaveParts u (outermost_loops u) text

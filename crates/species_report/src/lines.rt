@@ -3,7 +3,7 @@
 ghost use Rattle.std.specs.Prelude.{◌≡◌, ◌++◌, ◌∷◌, [], List, All, IfOk, OnOk, codes, decimal};
 ghost use Rattle.species_merge.specs.Sizes.{IsMergeable, IsSmallBound};
 ghost use Rattle.species_report.specs.Table.{IsLineOf, place_line};
-ghost use Rattle.species_report.specs.Parts.{HaveLines};
+ghost use Rattle.species_report.specs.Lines.{HaveLines};
 
 use itoa::Buffer;
 use species_ast::OutOfMemory;

@@ -22,7 +22,6 @@ add_stmt-returns-in_ok-add_list-in-Block t c =
     block_heads c.args.statement.now c.in-Block.body c.as_slice-in-Block.result.now (loops_seen c.args.found.now.items) (loops_seen c.add_list-in-Block.new.found.items) c.in-Block.is c.as_slice-in-Block.ensures
     c.in_ok-add_list-in-Block.ensures
 
-
 pub add_stmt-returns-in-Assign : goal.add_stmt-returns-in-Assign
 add_stmt-returns-in-Assign t c = let i = c.in-Assign in assign_heads c.args.statement.now i.place i.array i.subs i.value (loops_seen c.args.found.now.items) i.is
 

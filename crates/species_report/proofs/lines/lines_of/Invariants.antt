@@ -1,5 +1,5 @@
 use Rattle.std.proofs.Common.{take}
-use Rattle.species_report.specs.Parts.{HaveLines}
+use Rattle.species_report.specs.Lines.{HaveLines}
 use Rattle.species_report.proofs.lines.lines_of.Given as goal
 
 abbrev pub invariant-loop-reference : goal.invariant-loop-reference

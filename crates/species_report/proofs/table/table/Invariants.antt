@@ -1,6 +1,6 @@
 use Rattle.std.proofs.Common.{◌≡◌, [], map, take}
 use Rattle.species_report.specs.Heads.{loops_seen}
-use Rattle.species_report.specs.Parts.{HaveParts}
+use Rattle.species_report.specs.Table.{HaveParts}
 use Rattle.species_report.proofs.table.table.Given as goal
 
 abbrev pub invariant-loop-head : goal.invariant-loop-head
