@@ -16,6 +16,9 @@ pub seen_more : (xs : List (Bor Loop)) (y : Bor Loop) → loops_seen (xs ++ y �
 seen_more [] y = refl
 seen_more (x ∷ xs) y = ap (λ l. x.now ∷ l) (seen_more xs y)
 
+pub pushed : (old new : List (Bor Loop)) (y : Bor Loop) → new ≡ old ++ y ∷ [] → loops_seen new ≡ loops_seen old ++ y.now ∷ []
+pushed old new y h = ap loops_seen h ∙ seen_more old y
+
 flat_more : (xs : List Stmt) (x : Stmt) → flat_map outermost_in (xs ++ x ∷ []) ≡ flat_map outermost_in xs ++ outermost_in x
 flat_more [] x = append-nil (outermost_in x)
 flat_more (y ∷ xs) x = ap (λ l. outermost_in y ++ l) (flat_more xs x) ∙ sym (append_assoc (outermost_in y) (flat_map outermost_in xs) (outermost_in x))

@@ -18,7 +18,7 @@ use Rattle.species_ast.specs.Scope.References.{no_adds, references_of, reference
 use Rattle.species_ast.specs.Scope.Refusals.{places_where}
 use Rattle.species_ast.specs.Scope.WellMade.{IsWellMade}
 use Rattle.species_ast.proofs.Folds.{fold_loop-out}
-use Rattle.species_linear.specs.Box.{HasSmallEnds}
+use Rattle.species_linear.specs.Box.{zero_range}
 use Rattle.species_linear.specs.declared.loops.LoopRange.{LoopRange}
 use Rattle.species_merge.specs.Arcs.{AreArcsOf}
 use Rattle.species_merge.specs.Bounds.{IsBoundOf}
@@ -118,7 +118,7 @@ head_there u all i b heads at within = let here = seen_at all i b b.now at withi
 
 -- ---- the nest of a loop
 
-pub first_range : (found : List LoopRange) (head : Loop) (d : LoopRange) → ranges_seen found ≡ ranges_in_loop head [] → (0 < length found) × (range_seen (slice_index_or found 0 d) ≡ range_of [] (out-Loop head))
+first_range : (found : List LoopRange) (head : Loop) (d : LoopRange) → ranges_seen found ≡ ranges_in_loop head [] → (0 < length found) × (range_seen (slice_index_or found 0 d) ≡ range_of [] (out-Loop head))
 first_range found head d h = go found (h ∙ ap (λ k. k []) (fold_loop-out ranges_at ranges_within head))
   where
     head_of : List Range → Range → Range
@@ -128,6 +128,12 @@ first_range found head d h = go found (h ∙ ap (λ k. k []) (fold_loop-out rang
     go : (xs : List LoopRange) → ranges_seen xs ≡ range_of [] (out-Loop head) ∷ ranges_in_list (out-Loop head).body (range_of [] (out-Loop head) ∷ []) → (0 < length xs) × (range_seen (slice_index_or xs 0 d) ≡ range_of [] (out-Loop head))
     go [] e = absurd cc
     go (x ∷ xs) e = (omega arith, ap (λ l. head_of l (range_seen x)) e)
+
+pub first_there : (found seen : List LoopRange) (head : Loop) → seen ≡ found → ranges_seen found ≡ ranges_in_loop head [] → 0 < length seen
+first_there found seen head same h = subst (λ xs. 0 < length xs) (sym same) (first_range found head zero_range h).0
+
+pub first_seen : (found seen : List LoopRange) (head : Loop) → seen ≡ found → ranges_seen found ≡ ranges_in_loop head [] → range_seen (slice_index_or seen 0 zero_range) ≡ range_of [] (out-Loop head)
+first_seen found seen head same h = ap (λ xs. range_seen (slice_index_or xs 0 zero_range)) same ∙ (first_range found head zero_range h).1
 
 few_places : (ls : List Loop) (most : ℕ) → places_where (λ l. nat_lt most (reference_count l)) (λ l. (out-Loop l).place) ls ≡ [] → (l : Loop) → Contains ls l → reference_count l ≤ most
 few_places [] most h l there = let below = there.1 in absurd (omega (arith, below))
@@ -176,6 +182,3 @@ nest_mergeable u head refs well there nest =
 
 pub head_fits : (u : Program) (head : Loop) → IsWellMade u → Contains (outermost_loops u) head → fits_in_loop head [] ≡ true
 head_fits u head well there = subst (λ l. fits_in_loop l [] ≡ true) there.2 (outermost_fit u well there.0 head there.1)
-
-pub first_ends : (found : List LoopRange) (d : LoopRange) → 0 < length found → All HasSmallEnds found → HasSmallEnds (slice_index_or found 0 d)
-first_ends found d some h = h 0 d some

@@ -3,9 +3,9 @@
 
 mod heads;
 mod lines;
-mod table;
+mod unit;
 
-pub use table::table;
+pub use unit::table;
 
 #[cfg(test)]
 mod tests;

@@ -1,4 +1,4 @@
-//! The table: of each loop that stands in no other its place and its lines.
+//! The table of a unit: of each loop that stands in no other its place and its lines.
 
 ghost use Rattle.std.specs.Prelude.{◌≡◌, ◌<◌, ◌^◌, [], ◌∷◌, List, All, IfOk, OnOk, length, map, take};
 ghost use Rattle.std.specs.List.{Contains};

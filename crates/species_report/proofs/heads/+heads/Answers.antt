@@ -1,5 +1,5 @@
 use Rattle.species_report.specs.Heads.{loops_seen}
-use Rattle.species_report.proofs.HeadLemmas.{next_heads, all_heads, if_heads, block_heads, for_heads, seen_more, assign_heads, add_heads, declare_heads, set_heads}
+use Rattle.species_report.proofs.HeadLemmas.{next_heads, all_heads, if_heads, block_heads, for_heads, pushed, assign_heads, add_heads, declare_heads, set_heads}
 use Rattle.species_report.proofs.heads.+heads.Goals as goal
 
 pub add_list-loop-statement-preserved : goal.add_list-loop-statement-preserved
@@ -33,3 +33,7 @@ add_stmt-returns-in-Declare t c = let i = c.in-Declare in declare_heads c.args.s
 
 pub add_stmt-returns-in-SetLocal : goal.add_stmt-returns-in-SetLocal
 add_stmt-returns-in-SetLocal t c = let i = c.in-SetLocal in set_heads c.args.statement.now i.place i.local i.value (loops_seen c.args.found.now.items) i.is
+
+pub add_stmt-returns-in_ok-push-in-For : goal.add_stmt-returns-in_ok-push-in-For
+add_stmt-returns-in_ok-push-in-For t c =
+    for_heads c.args.statement.now c.in-For.head (loops_seen c.args.found.now.items) (loops_seen c.push.new.self.items) c.in-For.is (pushed c.args.found.now.items c.push.new.self.items _ c.in_ok-push-in-For.ensures.items)
