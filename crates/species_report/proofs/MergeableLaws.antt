@@ -8,6 +8,7 @@ use Rattle.std.proofs.lemmas.Bool.Decides.{nat_tests}
 use Rattle.std.proofs.lemmas.Int.{ints}
 use Rattle.std.proofs.lemmas.Nat.{mul-le}
 use Rattle.std.proofs.lemmas.Nat.Gcd.{dvd-zero, le_of_dvd}
+use Rattle.std.proofs.Math.Nat.{div-add-mod', mod-eq-zero_of_dvd}
 use Rattle.species_integers.proofs.Sizes.{abs_sum, abs_product}
 use Rattle.species_affine.specs.Limited.{IsWithin}
 use Rattle.species_affine.specs.Subscript.{IsSameForm, IsSubscript, HasFormNumbers}
@@ -130,11 +131,7 @@ zeros_divided : (ns : List ℕ) (d : ℕ) → Each (λ n. n ≡ 0) ns → Each (
 zeros_divided ns d h = each_weaker (λ n. n ≡ 0) (λ n. d ∣ n) (λ n e. subst (λ m. d ∣ m) (sym e) (dvd-zero d)) ns h
 
 only_zero : (g : ℕ) → 0 ∣ g → g ≡ 0
-only_zero zero h = refl
-only_zero (suc g) h = let below : suc g ≤ 0 = divides_none (suc g) h in absurd (omega (arith, below))
-  where
-    divides_none : (n : ℕ) → 0 ∣ n → n ≤ 0
-    divides_none n h = grind (arith, h)
+only_zero g h = omega (arith, div-add-mod' g 0, mod-eq-zero_of_dvd 0 h)
 
 stride_small : (ns : List ℕ) (t : ℕ) → Each (λ n. n ≤ 2 ^ 47) ns → IsStrideOf ns t → (0 < t) × (t ≤ 2 ^ 70)
 stride_small ns t h stride =
