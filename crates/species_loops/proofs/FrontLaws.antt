@@ -152,12 +152,12 @@ some_longest level n front h = go (length front - n) n (omega (arith, there leve
         past : (more : Bool) → is_band level front (k + 1) ≡ more → more ≡ false
         past false at = refl
         past true at = absurd (omega (arith, full, there level (k + 1) front at))
-    go (suc fuel) k full b = more (is_band level front (k + 1)) refl
+    go (suc fuel) k full b = more (is_band level front (k + 1)) refl (λ at. go fuel (k + 1) (omega (arith, full)) at)
       where
-        more : (next : Bool) → is_band level front (k + 1) ≡ next → (m : ℕ) × IsLongestBand level front m × (k ≤ m)
-        more false at = (k, longest level k front b at, omega arith)
-        more true at =
-            let up = go fuel (k + 1) (omega (arith, full)) at in (up.0, up.1, omega (arith, up.2))
+        more : (next : Bool) → is_band level front (k + 1) ≡ next → (is_band level front (k + 1) ≡ true → (m : ℕ) × IsLongestBand level front m × (k + 1 ≤ m))
+            → (m : ℕ) × IsLongestBand level front m × (k ≤ m)
+        more false at up = (k, longest level k front b at, omega arith)
+        more true at up = let found = up at in (found.0, found.1, omega (arith, found.2))
 
 -- the count of loops stopped at a longest band, or at the greatest number that is counted
 pub as_many : (level n : ℕ) (front : List Bounds) → is_band level front n ≡ true → (nat_lt n 4294967295 && is_band level front (n + 1)) ≡ false → n ≤ 4294967295

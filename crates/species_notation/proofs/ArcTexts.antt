@@ -11,11 +11,11 @@ use Rattle.species_notation.specs.Spelled.{listed_parts, form_parts, arc_front, 
 use Rattle.species_notation.specs.Written.{spaced, arc_pieces, next_arc, arc_after, side_pieces, line_pieces}
 use Rattle.species_notation.proofs.Texts.{parts_append, not_zero}
 
-text_append : (ps qs : List Piece) → text_of (ps ++ qs) ≡ text_of ps ++ text_of qs
+pub text_append : (ps qs : List Piece) → text_of (ps ++ qs) ≡ text_of ps ++ text_of qs
 text_append [] qs = refl
 text_append (p ∷ ps) qs = ap (λ l. piece_text p ++ l) (text_append ps qs) ∙ sym (append_assoc (piece_text p) (text_of ps) (text_of qs))
 
-text_solid : (ps : List Part) → text_of (map Solid ps) ≡ parts_text ps
+pub text_solid : (ps : List Part) → text_of (map Solid ps) ≡ parts_text ps
 text_solid [] = refl
 text_solid (p ∷ ps) = ap (λ l. part_text p ++ l) (text_solid ps)
 

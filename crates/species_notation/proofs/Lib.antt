@@ -13,6 +13,7 @@ pub mod ReasonsBack
 pub mod ReadBack
 pub mod Texts
 pub mod ArcTexts
+mod TableTexts
 pub mod Turns
 pub mod Totals
 pub mod Fronts

@@ -12,12 +12,15 @@ mod reading;
 mod refusal;
 mod scan;
 mod sums;
-#[cfg(test)]
-mod tests;
+mod table;
 mod writing;
 
 pub use given::{GivenArc, GivenDim, Names, SpeciesLine};
 pub use law::{law_notation, law_table_lines};
 pub use line::read_line;
 pub use refusal::NotationRefusal;
+pub use table::write_table_line;
 pub use writing::{write_arc, write_line};
+
+#[cfg(test)]
+mod tests;

@@ -16,7 +16,7 @@ use species_linear::{Form, Term};
 use std::alloc::Global;
 
 /// The name of a number; no bytes, where there is none.
-fn name_at(names: &[Name], number: u32) -> &[u8]
+pub(crate) fn name_at(names: &[Name], number: u32) -> &[u8]
     ensures { result.now ≡ name_at names.now number }
 {
     match names.get(number as usize) {
@@ -32,7 +32,7 @@ fn is_negative(n: i128) -> bool
 }
 
 /// Appends bytes.
-fn put(out: &mut Vec<u8>, bytes: &[u8]) -> Result<(), OutOfMemory>
+pub(crate) fn put(out: &mut Vec<u8>, bytes: &[u8]) -> Result<(), OutOfMemory>
     ensures { OnOk result (out.new.items ≡ out.old.items ++ bytes.now) }
 {
     out.extend_from_slice(bytes)?;
@@ -40,7 +40,7 @@ fn put(out: &mut Vec<u8>, bytes: &[u8]) -> Result<(), OutOfMemory>
 }
 
 /// Appends a number.
-fn put_number(out: &mut Vec<u8>, number: u128) -> Result<(), OutOfMemory>
+pub(crate) fn put_number(out: &mut Vec<u8>, number: u128) -> Result<(), OutOfMemory>
     ensures { OnOk result (out.new.items ≡ out.old.items ++ decimal number) }
 {
     let mut buffer = Buffer::new();
@@ -165,7 +165,7 @@ fn put_range(out: &mut Vec<u8>, dim: &ArcDim, iters: &[Name]) -> Result<(), OutO
 }
 
 /// Appends the comma before each item of a list but the first.
-fn put_comma(out: &mut Vec<u8>, index: usize) -> Result<(), OutOfMemory>
+pub(crate) fn put_comma(out: &mut Vec<u8>, index: usize) -> Result<(), OutOfMemory>
     ensures { OnOk result (out.new.items ≡ out.old.items ++ parts_text (separator 44 index)) }
 {
     if index > 0 {
@@ -175,7 +175,11 @@ fn put_comma(out: &mut Vec<u8>, index: usize) -> Result<(), OutOfMemory>
 }
 
 /// Appends the domains of the dimensions.
-fn put_ranges(out: &mut Vec<u8>, dims: &[ArcDim], iters: &[Name]) -> Result<(), OutOfMemory>
+pub(crate) fn put_ranges(
+    out: &mut Vec<u8>,
+    dims: &[ArcDim],
+    iters: &[Name],
+) -> Result<(), OutOfMemory>
     ensures { OnOk result (out.new.items ≡ out.old.items ++ parts_text (listed_parts 44 range_parts (map (written_range iters.now) dims.now))) }
 {
     for (index, dim) in dims.iter().enumerate() {
@@ -197,7 +201,11 @@ fn put_offset_list(out: &mut Vec<u8>, dims: &[ArcDim]) -> Result<(), OutOfMemory
 }
 
 /// Appends what moves with the iterators, of each dimension.
-fn put_forms(out: &mut Vec<u8>, dims: &[ArcDim], iters: &[Name]) -> Result<(), OutOfMemory>
+pub(crate) fn put_forms(
+    out: &mut Vec<u8>,
+    dims: &[ArcDim],
+    iters: &[Name],
+) -> Result<(), OutOfMemory>
     ensures { OnOk result (out.new.items ≡ out.old.items ++ parts_text (listed_parts 44 form_parts (map (λ d. written_form iters.now d.at) dims.now))) }
 {
     for (index, dim) in dims.iter().enumerate() {
@@ -208,7 +216,7 @@ fn put_forms(out: &mut Vec<u8>, dims: &[ArcDim], iters: &[Name]) -> Result<(), O
 }
 
 /// The text of a word.
-fn word_text(word: Word) -> &'static [u8]
+pub(crate) fn word_text(word: Word) -> &'static [u8]
     ensures { result.now ≡ word_text word }
 {
     match word {
@@ -221,14 +229,14 @@ fn word_text(word: Word) -> &'static [u8]
 }
 
 /// The text of the mark at the end of an arc.
-fn mark_text(exact: bool) -> &'static [u8]
+pub(crate) fn mark_text(exact: bool) -> &'static [u8]
     ensures { result.now ≡ mark_text exact }
 {
     if exact { b"exact" } else { b"within" }
 }
 
 /// Appends the offsets in their brackets; `element` has none.
-fn put_offsets(out: &mut Vec<u8>, word: Word, dims: &[ArcDim]) -> Result<(), OutOfMemory>
+pub(crate) fn put_offsets(out: &mut Vec<u8>, word: Word, dims: &[ArcDim]) -> Result<(), OutOfMemory>
     ensures { OnOk result (out.new.items ≡ out.old.items ++ parts_text (offsets_parts (written_offsets word dims.now))) }
 {
     match word {

@@ -1,0 +1,5 @@
+pub mod OutermostLaws
+pub mod KeepLaws
+pub mod SmallLaws
+pub mod BoundedLaws
+mod RangeLemmas

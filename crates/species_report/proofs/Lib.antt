@@ -1,0 +1,3 @@
+pub mod MergeableLaws
+mod HeadLemmas
+mod PartLemmas
