@@ -1,0 +1,2 @@
+//! The truth of the table of arcs.
+#![tactic(auto)]
