@@ -59,7 +59,7 @@ pub record IsFixed (f : Form) : Type 0 where
   pub terms : f.terms ≡ []
   pub small : unsigned_abs f.constant ≤ 2 ^ 32
 
-fixed_value : (f : Form) (p : Point) → f.terms ≡ [] → form_at f p ≡ f.constant
+pub fixed_value : (f : Form) (p : Point) → f.terms ≡ [] → form_at f p ≡ f.constant
 fixed_value f p e = ap (λ ts. f.constant +ℤ sum_at ts p) e ∙ omega (arith, ints)
 
 pub record IsFixedBound (b : BandBound) : Type 0 where

@@ -227,17 +227,24 @@ record IsGoodBound (b : BandBound) : Type 0 where
   fixed : IsFixedBound b
   step : unsigned_abs b.step ≤ 65536
 
+-- the ends of a dimension have one value at all points
+pub record HasFixedEnds (d : ArcDim) : Type 0 where
+  pub low : d.low.terms ≡ []
+  pub high : d.high.terms ≡ []
+
 abbrev IsGoodDim : List ℕ → ArcDim → Type 0
-IsGoodDim w d = IsReadableDim (w ∷ []) d × HasReadableSizes d
+IsGoodDim w d = IsReadableDim (w ∷ []) d × HasReadableSizes d × HasFixedEnds d
 
 dim_readable : (b : BandBound) (w : List ℕ) (s : Subscript) (x : Span) (d : ArcDim) → IsGoodBound b → HasFormNumbers s → IsWholeBox x → IsDimOf 0 (b ∷ []) s (x ∷ []) d → IsGoodDim w d
 dim_readable b w s x d bound numbers box h =
     let o = dim_offsets 0 (b ∷ []) s x d box h in
-    let good : Each IsGoodTerm d.at.terms = subst (Each IsGoodTerm) (sym h.terms) (dim_terms s numbers) in (
+    let good : Each IsGoodTerm d.at.terms = subst (Each IsGoodTerm) (sym h.terms) (dim_terms s numbers) in
+    let low = end_of true b d.at d.a d.low bound.fixed h.rising good h.low in
+    let high = end_of false b d.at d.b d.high bound.fixed h.rising good h.high in (
       record {
         at = at_readable w d.at h.rising good o.constant;
-        low = end_readable w d.at d.a d.low x.low (end_of true b d.at d.a d.low bound.fixed h.rising good h.low) o.low box.small.low;
-        high = end_readable w d.at d.b d.high x.high (end_of false b d.at d.b d.high bound.fixed h.rising good h.high) o.high box.small.high;
+        low = end_readable w d.at d.a d.low x.low low o.low box.small.low;
+        high = end_readable w d.at d.b d.high x.high high o.high box.small.high;
         ordered = o.ordered;
         a = omega (arith, o.first);
         b = omega (arith, o.last);
@@ -248,6 +255,7 @@ dim_readable b w s x d bound numbers box h =
         elements = dim_elements d.a d.b d.stride d.elements o.first o.last h.elements;
         step = dim_step b d.at.terms d.step bound.step good h.step;
       },
+      record { low = low.terms; high = high.terms },
     )
 
 dims_readable : (b : BandBound) (w : List ℕ) (r : Reference) (k : ℕ) (ss : List Subscript) (ds : List ArcDim) → IsGoodBound b → ((j : ℕ) → IsWholeBox (box_at r.boxes j)) → Each HasFormNumbers ss
@@ -301,6 +309,7 @@ good_bound head b constant h =
 pub record IsGoodArc (u : Program) (head : Loop) (arc : Arc) : Type 0 where
   pub readable : IsReadableArc (names_in u head) arc
   pub sizes : All HasReadableSizes arc.dims
+  pub ends : Each HasFixedEnds arc.dims
 
 pub arc_readable : (u : Program) (head : Loop) (b : BandBound) (r : Reference) (q : references.Reference) (arc : Arc) → list_all has_sizes u.arrays ≡ true → HasConstantEnds head → IsBoundOf (out-Loop head) b
     → IsReference (sizes_of (source_context u)) 1 r q → IsBounded u 1 q → HasTurns 1 q → AreSettled 1 q → AreArcsOf 0 (b ∷ []) (r ∷ []) (arc ∷ []) → IsGoodArc u head arc
@@ -322,4 +331,5 @@ arc_readable u head b r q arc dimensions constant bound shown bounded full settl
         dims = each_to_all (IsReadableDim (w ∷ [])) arc.dims (weaker (IsGoodDim w) (IsReadableDim (w ∷ [])) (λ d h. h.0) arc.dims dims.0);
       };
       sizes = each_to_all HasReadableSizes arc.dims (weaker (IsGoodDim w) HasReadableSizes (λ d h. h.1) arc.dims dims.0);
+      ends = weaker (IsGoodDim w) HasFixedEnds (λ d h. h.2) arc.dims dims.0;
     }

@@ -1,5 +1,5 @@
 -- The table of a unit that is read is true of each run.
-use Rattle.std.proofs.Common.{◌≡◌, ◌≢◌, refl, ap, sym, ◌∙◌, subst, arith, ℕ, zero, suc, ◌+◌, ◌<◌, ◌≤◌, ◌^◌, Bool, true, false, not, nat_lt, List, [], ◌∷◌, ◌++◌, map, length, drop, append_assoc, ℤ, Option, Some, None, All, inl, inr}
+use Rattle.std.proofs.Common.{◌≡◌, ◌≢◌, refl, ap, sym, ◌∙◌, subst, arith, ℕ, zero, suc, ◌+◌, ◌<◌, ◌≤◌, ◌^◌, Bool, true, false, not, nat_lt, List, [], ◌∷◌, ◌++◌, map, length, drop, append_assoc, ℤ, ◌≤ℤ◌, Option, Some, None, All, inl, inr}
 use Rattle.std.specs.Prelude.{codes, slice_get, slice_index_or, IsTrue, Ok}
 use Rattle.std.specs.List.{Any, Contains, flat_map, list_all}
 use Rattle.std.proofs.lemmas.Bool.{and_parts}
@@ -32,6 +32,7 @@ use Rattle.species_ast.proofs.StripKeeps.{strip-IsWellMade}
 use Rattle.species_ast.proofs.StripLaws.{strip_of-IsUnmarked}
 use Rattle.species_cover.specs.Places.{IsInGivenDim}
 use Rattle.species_linear.specs.Point.{Point, point_of}
+use Rattle.species_linear.specs.Value.{form_at}
 use Rattle.species_lines.specs.Lines.{place_of, IsIn, IsTouch, Standing, loops_of, nest_references, IsInnermost, AreNestArcs, HoldIn, LinesHold, AdditionsAreMarked}
 use Rattle.species_merge.specs.Arcs.{AreArcsOf}
 use Rattle.species_merge.specs.Bounds.{IsBoundOf}
@@ -51,13 +52,14 @@ use Rattle.species_references.specs.declared.nest.Reference.{Reference as Held}
 use Rattle.species_references.proofs.TurnLaws.{references_have_turns, each_to_all}
 use Rattle.species_ranges.proofs.BoundedLaws.{IsBounded, outermost_bounded}
 use Rattle.species_report.specs.Table.{names_in, AreOfNest, IsLineOf, IsOfLoop, IsTable, joined, place_line}
-use Rattle.species_truth.specs.Truth.{IsInSaidSet, IsBetween, IsInSaidDomain, IsTurn, does, accessed, Ends, references_in, SaysTrue, IsTrueLine, IsTrueOfLoop, IsTrueTable, TablesAreTrue}
+use Rattle.species_truth.specs.Truth.{IsInSaidSet, IsBetween, IsInSaidDomain, IsTurn, does, accessed, Ends, references_in, IsOf, SaysTrue, IsTrueLine, IsTrueOfLoop, IsTrueTable, TablesAreTrue}
 use Rattle.species_notation.proofs.FeedLaws.{IsOneLine, line_is_one}
+use Rattle.species_truth.proofs.FixedForms.{fixed_value}
 use Rattle.species_truth.proofs.HeadLaws.{HasConstantEnds, outermost_constant}
 use Rattle.species_truth.proofs.ListLemmas.{all_one, any_one, each_contains, each_of_all}
 use Rattle.species_truth.proofs.NameLaws.{HasName, IsNamed, read_named, where_none}
 use Rattle.species_truth.proofs.PlainLaws.{IsPlain, IsPlainReference, references_plain}
-use Rattle.species_truth.proofs.ReadableLaws.{IsGoodArc, arc_readable}
+use Rattle.species_truth.proofs.ReadableLaws.{HasFixedEnds, IsGoodArc, arc_readable}
 use Rattle.species_truth.proofs.SourceLaws.{source_references, source_bound}
 
 -- ---- lists
@@ -119,6 +121,16 @@ set_said n arc p place h = unmapped dim_as_given (IsInGivenDim p) arc.dims place
 said_domain : (n : ℕ) (arc : Arc) (p : Point) (place : List ℤ) → IsInDomain arc p place → IsInSaidDomain (table_line_for n arc) p place
 said_domain n arc p place h = mapped (λ (d : ArcDim). (d.low, d.high)) (IsBetween p) arc.dims place h
 
+-- ends that have one value at all points are the same at any two
+domain_anywhere : (ds : List ArcDim) (p q : Point) (place : List ℤ) → Each HasFixedEnds ds → Pairwise (λ d index. IsInDimDomain d p index) ds place → Pairwise (λ d index. IsInDimDomain d q index) ds place
+domain_anywhere [] p q [] fixed h = tt
+domain_anywhere [] p q (v ∷ place) fixed h = absurd h
+domain_anywhere (d ∷ ds) p q [] fixed h = absurd h
+domain_anywhere (d ∷ ds) p q (v ∷ place) fixed h =
+    let low : form_at d.low p ≡ form_at d.low q = fixed_value d.low p fixed.0.low ∙ sym (fixed_value d.low q fixed.0.low) in
+    let high : form_at d.high p ≡ form_at d.high q = fixed_value d.high p fixed.0.high ∙ sym (fixed_value d.high q fixed.0.high) in
+    ((subst (λ z. z ≤ℤ v) low h.0.0, subst (λ z. v ≤ℤ z) high h.0.1), domain_anywhere ds p q place fixed.1 h.1)
+
 -- ---- one line, in a turn
 
 -- the nest of one loop
@@ -153,11 +165,11 @@ nest_arcs u head bound held arc r q has same among shown = record {
   merged = has.alone;
 }
 
-in_arc : (sizes : ℕ → List ℕ) (iters : List ℤ) (n : ℕ) (q : Reference) (arc : Arc) (a : Access) → (IsMadeAmong sizes (q ∷ []) a → Any (IsIn iters a) (arc ∷ [])) → IsMadeBy sizes q a
-    → IsInSaidSet (table_line_for n arc) (point_of iters) (place_of a) × IsInSaidDomain (table_line_for n arc) (point_of iters) (place_of a)
-in_arc sizes iters n q arc a h made =
+in_arc : (sizes : ℕ → List ℕ) (iters : List ℤ) (n : ℕ) (q : Reference) (arc : Arc) (a : Access) → Each HasFixedEnds arc.dims → (IsMadeAmong sizes (q ∷ []) a → Any (IsIn iters a) (arc ∷ [])) → IsMadeBy sizes q a
+    → IsInSaidSet (table_line_for n arc) (point_of iters) (place_of a) × ((p : Point) → IsInSaidDomain (table_line_for n arc) p (place_of a))
+in_arc sizes iters n q arc a fixed h made =
     let one = any_one (IsIn iters a) arc (h (inl made)) in
-    (said_set n arc (point_of iters) (place_of a) one.set, said_domain n arc (point_of iters) (place_of a) one.domain)
+    (said_set n arc (point_of iters) (place_of a) one.set, λ p. said_domain n arc p (place_of a) (domain_anywhere arc.dims (point_of iters) p (place_of a) fixed one.domain))
 
 touched : (sizes : ℕ → List ℕ) (q : Reference) (arc : Arc) (place : List ℤ) (made : List Access) → Any (IsTouch sizes (q ∷ []) arc place) made → Any (λ a. IsMadeBy sizes q a × (place_of a ≡ place)) made
 touched sizes q arc place made (k, a, l, is, h) = (k, a, l, is, (by h.made, h.stands))
@@ -166,17 +178,20 @@ touched sizes q arc place made (k, a, l, is, h) = (k, a, l, is, (by h.made, h.st
     by (inl m) = m
     by (inr m) = absurd m
 
+is_of : (sizes : ℕ → List ℕ) (u : Program) (head : Loop) (bound : BandBound) (held : Held) (arc : Arc) (n : ℕ) (q : Reference) → HasArc u head bound held arc → IsReference sizes 1 held q → IsOf (table_line_for n arc) q
+is_of sizes u head bound held arc n q has shown =
+    let of = has.alone.0 in
+    record { array = ap (λ (a : ℕ). Some a) (of.array ∙ shown.array); direction = ap direction_of of.direction ∙ shown.direction }
+
 says_true : (lines : LinesHold) (marked : AdditionsAreMarked) (join : Joins) (u : Program) (head : Loop) (bound : BandBound) (held : Held) (arc : Arc) (n : ℕ) (r : Running) (t : Turn) (q : Reference)
-    → IsWellMade u → HasArc u head bound held arc → IsTurn join u head r t → IsOneOf q (references_in r) → IsReference (sizes_of (source_context u)) 1 held q
+    → IsWellMade u → HasArc u head bound held arc → Each HasFixedEnds arc.dims → IsTurn join u head r t → IsOneOf q (references_in r) → IsReference (sizes_of (source_context u)) 1 held q
     → SaysTrue (sizes_of (source_context u)) (table_line_for n arc) q t.frame.iters (accessed join u r t) (Ends join u r t)
-says_true lines marked join u head bound held arc n r t q well has is among shown =
+says_true lines marked join u head bound held arc n r t q well has fixed is among shown =
     let sizes = sizes_of (source_context u) in
     let all = turn_holds lines marked join u head r t (q ∷ []) (arc ∷ []) well is (nest_arcs u head bound held arc r q has is.loop among shown) in
-    let of = has.alone.0 in
     record {
-      array = ap (λ (a : ℕ). Some a) (of.array ∙ shown.array);
-      direction = ap direction_of of.direction ∙ shown.direction;
-      inside = λ k d l. in_arc sizes t.frame.iters n q arc (slice_index_or (accessed join u r t) k d) (all.inside k d l);
+      of = is_of sizes u head bound held arc n q has shown;
+      inside = λ k d l. in_arc sizes t.frame.iters n q arc (slice_index_or (accessed join u r t) k d) fixed (all.inside k d l);
       filled = λ ended exact place h.
           touched sizes q arc place (accessed join u r t) (all.filled ended 0 arc (omega arith) exact place (set_said n arc (point_of t.frame.iters) place h));
     }
@@ -206,7 +221,7 @@ standing_below (y ∷ xs) (suc k) x h = omega (arith, standing_below xs k x h)
 
 line_reads : (back : TableReadsBack) (settled : ReferencesAreSettled) (u : Program) (head : Loop) (bound : BandBound) (held : Held) (arc : Arc) (k : ℕ) (q : Reference) → IsReady u head → HasArc u head bound held arc
     → StandsAt (references_of no_adds head [] [] 1) k q → IsReference (sizes_of (source_context u)) 1 held q
-    → IsOneLine (table_line_text (names_in u head) k arc) × (table_line_of (names_in u head) (table_line_text (names_in u head) k arc) ≡ Some (table_line_for k arc))
+    → IsOneLine (table_line_text (names_in u head) k arc) × (table_line_of (names_in u head) (table_line_text (names_in u head) k arc) ≡ Some (table_line_for k arc)) × Each HasFixedEnds arc.dims
 line_reads back settled u head bound held arc k q ready has at shown =
     let qs = references_of no_adds head [] [] 1 in
     let w = (out-Loop head).iter in
@@ -222,6 +237,7 @@ line_reads back settled u head bound held arc k q ready has at shown =
       line_is_one (map (λ a. a.name) u.arrays) w k arc ready.named.arrays name few good.readable good.sizes,
       back (names_in u head) k arc ready.named.arrays (all_one (λ v. is_name v ≡ true) w name) ready.named.different (λ i j l m. absurd (one_different w i j l m)) good.readable
           (not_added arc.dir (subst IsPlain (sym direction) plain)) few good.sizes,
+      good.ends,
     )
 
 -- ---- the lines of a loop
@@ -273,9 +289,10 @@ line_true lines marked back settled u head bound rs held k line ready nest at is
       reads = ap (table_line_of (names_in u head)) text ∙ read.1;
       number = refl;
       known = refl;
+      of = λ q stands. is_of sizes u head bound held is.arc k q is.has (both_stand (IsReference sizes 1) rs (references_of no_adds head [] [] 1) k held q (nest.shown []) at stands);
       holds = λ join r t q turn stands.
           let in_text : StandsAt (references_of no_adds head r.at [] 1) k q = subst (λ qs. StandsAt qs k q) (running_references head r turn.loop) stands in
-          says_true lines marked join u head bound held is.arc k r t q ready.well is.has turn (one_of (references_in r) k q stands)
+          says_true lines marked join u head bound held is.arc k r t q ready.well is.has read.2 turn (one_of (references_in r) k q stands)
           (both_stand (IsReference sizes 1) rs (references_of no_adds head r.at [] 1) k held q (nest.shown r.at) at in_text);
     }
 

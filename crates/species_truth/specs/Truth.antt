@@ -70,23 +70,28 @@ references_in r = references_of no_adds r.loop r.at [] 1
 
 -- ---- true lines
 
--- In a turn, what the line says is true of a reference: it has the reference's array and direction; each access that the reference
--- makes, also in a turn that traps, is in the set and between the ends; and if the turn ends and the line is marked exact, the
--- reference accesses each place of the set.
-pub record SaysTrue (sizes : ℕ → List ℕ) (said : TableLine) (q : Reference) (iters : List ℤ) (made : List Access) (ended : Type 0) : Type 0 where
+-- the line has the array and the direction of the reference
+pub record IsOf (said : TableLine) (q : Reference) : Type 0 where
   pub array : said.arc.array ≡ Some q.array
   pub direction : direction_of said.arc.dir ≡ q.direction
-  pub inside : All (λ a. IsMadeBy sizes q a → IsInSaidSet said (point_of iters) (place_of a) × IsInSaidDomain said (point_of iters) (place_of a)) made
+
+-- In a turn, what the line says is true of a reference: it has the reference's array and direction; each access that the reference
+-- makes, also in a turn that traps, is in the set, and between the ends whatever the iterators are, since no loop stands around this
+-- one; and if the turn ends and the line is marked exact, the reference accesses each place of the set.
+pub record SaysTrue (sizes : ℕ → List ℕ) (said : TableLine) (q : Reference) (iters : List ℤ) (made : List Access) (ended : Type 0) : Type 0 where
+  pub of : IsOf said q
+  pub inside : All (λ a. IsMadeBy sizes q a → IsInSaidSet said (point_of iters) (place_of a) × ((p : Point) → IsInSaidDomain said p (place_of a))) made
   pub filled : ended → IsTrue said.arc.exact → (place : List ℤ) → IsInSaidSet said (point_of iters) place → Any (λ a. IsMadeBy sizes q a × (place_of a ≡ place)) made
 
--- The line, which has no line feed in it, can be read, with this number, and names nothing that is not there; and what it says is true
--- of the reference of its number in each turn of the loop, in each run.
+-- The line, which has no line feed in it, can be read, with this number and with the array and the direction of the reference of its
+-- number, and names no iterator that is not there; and what it says is true of that reference in each turn of the loop, in each run.
 pub record IsTrueLine (u : Program) (head : Loop) (k : ℕ) (line : List ℕ) : Type 0 where
   pub one : list_all is_no_line_feed line ≡ true
   pub said : TableLine
   pub reads : table_line_of (names_in u head) line ≡ Some said
   pub number : said.number ≡ k
   pub known : IsTrue said.arc.known
+  pub of : (q : Reference) → slice_get (references_of no_adds head [] [] 1) k ≡ Some q → IsOf said q
   pub holds : (join : Joins) (r : Running) (t : Turn) (q : Reference) → IsTurn join u head r t → slice_get (references_in r) k ≡ Some q
       → SaysTrue (sizes_of (source_context u)) said q t.frame.iters (accessed join u r t) (Ends join u r t)
 
