@@ -1,3 +1,4 @@
+pub mod FeedLaws
 pub mod Combining
 pub mod Fine
 pub mod FormSums
