@@ -1,4 +1,2 @@
 pub mod Lists
-pub mod TableLemmas
-pub mod TableTruth
 pub mod TopLemmas

@@ -1,22 +1,24 @@
--- What the top call answers: the words that it takes, the limit of its input, and what it writes with
--- each status.
-use Rattle.std.specs.Prelude.{◌≡◌, ◌⊎◌, ℕ, ◌≤◌, ◌<◌, true, false, List, Option, Some, Ok, Err, length, codes, String}
+-- What the program answers: for its words, the bytes that its input gave and its faults, a status, the text on its output and the
+-- line on its notes.
+use Rattle.std.specs.Prelude.{◌≡◌, ℕ, ◌≤◌, ◌<◌, List, [], Option, Some, Ok, Err, length, codes, String}
 use Rattle.std.specs.declared.alloc.Global.{Global}
 use Rattle.species_ast.specs.Limits.{most_bytes}
 use Rattle.species_ast.specs.declared.tree.Unit.{Unit as Program}
-use Rattle.species_io.specs.Told.{then_bytes, TookPart}
+use Rattle.species_io.specs.Told.{before, then_bytes, TookPart}
 use Rattle.species_reading.specs.Answers.{Answers, IsResolved}
 use Rattle.species_reading.specs.declared.refusal.ProgramRefusal.{ProgramRefusal}
 use Rattle.species_reading.specs.declared.refusal.InputRefusal.{InputRefusal}
 use Rattle.species_reading.specs.declared.refusal.InputRefusal.TheVariants as input
-use Rattle.species_reference.specs.Shape.{has_simple_loops}
+use Rattle.species_report.specs.Table.{IsTable}
+use Rattle.species_truth.specs.Truth.{IsTrueTable}
 use Rattle.species_words.specs.CommandLines.{IsCommandLine}
 use Rattle.species_words.specs.declared.Command.TheVariants as command
-use Rattle.species_cli.specs.Statuses.{status_refused, status_usage, status_read_fault}
-use Rattle.species_cli.specs.Refusals.{refusal_line, too_long_line, not_built_line}
-use Rattle.species_cli.specs.Table.{table_of, IsTrueTables}
+use Rattle.species_cli.specs.Statuses.{status_answered, status_refused, status_usage, status_read_fault}
+use Rattle.species_cli.specs.Refusals.{refusal_line, too_long_line}
 
--- The words are a lawful command line of a command that is built. Today `arcs` alone is built.
+-- ---- the words
+
+-- The words are a lawful command line of `arcs`, the one command that is built today.
 abbrev pub IsArcs : List (String Global) → Type 0
 IsArcs words = IsCommandLine words command.Arcs
 
@@ -26,17 +28,12 @@ usage_line = codes "usage: species arcs|annotate|compile|check|run [--trace]|dri
 abbrev pub read_fault_line : List ℕ
 read_fault_line = codes "read fault\n"
 
--- The bytes are a lawful program that becomes this unit, and its table can be written today.
-pub record HasTable (bytes : List ℕ) (program : Program) : Type 0 where
-  pub short : length bytes ≤ most_bytes
-  pub is_read : IsResolved bytes (Ok program)
-  pub simple : has_simple_loops program ≡ true
+-- ---- the bytes
 
--- They become this unit, and its table cannot be written yet.
-pub record IsNotBuilt (bytes : List ℕ) (program : Program) : Type 0 where
+-- They are a lawful program, which becomes this unit.
+pub record IsProgram (bytes : List ℕ) (program : Program) : Type 0 where
   pub short : length bytes ≤ most_bytes
   pub is_read : IsResolved bytes (Ok program)
-  pub other : has_simple_loops program ≡ false
 
 -- They are refused, with this line.
 pub record IsRefused (bytes line : List ℕ) : Type 0 where
@@ -45,45 +42,55 @@ pub record IsRefused (bytes line : List ℕ) : Type 0 where
   pub holds : Answers bytes (Err refusal)
   pub said : refusal_line refusal ≡ Some line
 
--- The bytes are a lawful program, the output has its table more, and each line of the table is true.
-pub record IsAnswered (bytes : List ℕ) (old new : Option (List ℕ)) : Type 0 where
-  pub program : Program
-  pub is_read : HasTable bytes program
-  pub written : new ≡ then_bytes old (table_of program)
-  pub is_true : IsTrueTables program.body
+-- ---- the answer
 
--- With these words and input bytes a status has this line on the notes; `rose` says that the input's
--- count of faults rose. Where it did, 4 may stand in place of 0 and 1; the other cases exclude each
--- other.
-pub data HasLine (words : List (String Global)) (rose : Type 0) (bytes : List ℕ) : ℕ → List ℕ → Type 0 where
-  usage : (IsArcs words → ⊥) → HasLine words rose bytes status_usage usage_line
-  read_fault : IsArcs words → rose → HasLine words rose bytes status_read_fault read_fault_line
-  too_long : IsArcs words → most_bytes < length bytes → HasLine words rose bytes status_refused too_long_line
-  refused : IsArcs words → (line : List ℕ) → IsRefused bytes line → HasLine words rose bytes status_refused line
-  not_built : IsArcs words → (program : Program) → IsNotBuilt bytes program → HasLine words rose bytes status_refused not_built_line
+-- With these words and input bytes this status has this text on the output and this line on the notes; `rose` says that the
+-- input's count of faults rose.
+pub data IsAnswer (words : List (String Global)) (rose : Type 0) (bytes : List ℕ) : ℕ → List ℕ → List ℕ → Type 0 where
+  usage : (IsArcs words → ⊥) → IsAnswer words rose bytes status_usage [] usage_line
+  read_fault : IsArcs words → rose → IsAnswer words rose bytes status_read_fault [] read_fault_line
+  too_long : IsArcs words → most_bytes < length bytes → IsAnswer words rose bytes status_refused [] too_long_line
+  refused : IsArcs words → (line : List ℕ) → IsRefused bytes line → IsAnswer words rose bytes status_refused [] line
+  arcs : IsArcs words → (program : Program) (text : List ℕ) → IsProgram bytes program → IsTable program text → IsTrueTable program text
+      → IsAnswer words rose bytes status_answered text []
 
--- the notes have exactly the line of this status more
-abbrev pub IsNoted : List (String Global) → Type 0 → List ℕ → ℕ → Option (List ℕ) → Option (List ℕ) → Type 0
-IsNoted words rose bytes status old new =
-    (line : List ℕ) × HasLine words rose bytes status line × (new ≡ then_bytes old line)
+-- ---- what came and went
 
--- the notes have a part of the line of some status more
-abbrev pub IsPartlyNoted : List (String Global) → Type 0 → List ℕ → Option (List ℕ) → Option (List ℕ) → Type 0
-IsPartlyNoted words rose bytes old new =
-    (status : ℕ) × (line : List ℕ) × HasLine words rose bytes status line × TookPart old new line
+-- These bytes came from an input that had and has what it tells.
+abbrev pub Gave : List ℕ → Option (List ℕ) → Option (List ℕ) → Type 0
+Gave bytes had left = had ≡ before bytes left
 
--- the output has a part of the table of the program more
-abbrev pub IsPartlyAnswered : List (String Global) → List ℕ → Option (List ℕ) → Option (List ℕ) → Type 0
-IsPartlyAnswered words bytes old new =
-    (program : Program) × IsArcs words × HasTable bytes program × TookPart old new (table_of program)
+-- what the output and the notes have taken, where they tell it
+pub record Sunk : Type 0 where
+  pub output : Option (List ℕ)
+  pub notes : Option (List ℕ)
 
--- a line of a refused input
-abbrev pub IsRefusedLine : List ℕ → Type 0
-IsRefusedLine line = (line ≡ too_long_line) ⊎ ((line ≡ not_built_line) ⊎ ((refusal : ProgramRefusal) × (refusal_line refusal ≡ Some line)))
+abbrev pub sunk : Option (List ℕ) → Option (List ℕ) → Sunk
+sunk output notes = record { output = output; notes = notes }
 
--- the notes have exactly one of the lines of a refused input more
-abbrev pub IsRefusedOn : Option (List ℕ) → Option (List ℕ) → Type 0
-IsRefusedOn old new = (line : List ℕ) × IsRefusedLine line × (new ≡ then_bytes old line)
+-- The sinks took exactly the text and the line of the status.
+pub record IsAnswered (words : List (String Global)) (rose : Type 0) (bytes : List ℕ) (status : ℕ) (old new : Sunk) : Type 0 where
+  pub text : List ℕ
+  pub line : List ℕ
+  pub answer : IsAnswer words rose bytes status text line
+  pub output : new.output ≡ then_bytes old.output text
+  pub notes : new.notes ≡ then_bytes old.notes line
+
+-- The output took the first bytes of the text of an answer, and not all.
+pub record IsCutText (words : List (String Global)) (rose : Type 0) (bytes : List ℕ) (old new : Option (List ℕ)) : Type 0 where
+  pub status : ℕ
+  pub text : List ℕ
+  pub line : List ℕ
+  pub answer : IsAnswer words rose bytes status text line
+  pub part : TookPart old new text
+
+-- So did the notes of the line of an answer.
+pub record IsCutLine (words : List (String Global)) (rose : Type 0) (bytes : List ℕ) (old new : Option (List ℕ)) : Type 0 where
+  pub status : ℕ
+  pub text : List ℕ
+  pub line : List ℕ
+  pub answer : IsAnswer words rose bytes status text line
+  pub part : TookPart old new line
 
 -- The status and the line of an input that is not read. Want of memory has none.
 pub data IsSaid : InputRefusal → ℕ → List ℕ → Type 0 where

@@ -1,5 +1,3 @@
 pub mod Answer
-pub mod Bounds
 pub mod Refusals
 pub mod Statuses
-pub mod Table

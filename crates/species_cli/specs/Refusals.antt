@@ -61,7 +61,3 @@ refusal_line program.Memory = None
 
 abbrev pub too_long_line : List ℕ
 too_long_line = codes "refused 18 TooLong at 4194304\n"
-
--- the line of a lawful program whose table is not built yet
-abbrev pub not_built_line : List ℕ
-not_built_line = codes "refused 19 NotBuilt at 0\n"

@@ -2,7 +2,6 @@
 #![tactic(auto)]
 
 mod refusal;
-mod table;
 mod top;
 
 pub use species_reading::{InputRefusal, ProgramRefusal, read_program, read_program_from};

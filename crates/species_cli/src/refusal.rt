@@ -5,7 +5,7 @@ ghost use Rattle.species_names.specs.Refused.{limit_seen};
 ghost use Rattle.species_scope.specs.Answers.{finding_of};
 ghost use Rattle.species_cli.specs.Refusals.{refused_text, place_text, refused_line, limit_name, finding_line, lex_line, text_line, refusal_line};
 
-use crate::table::put_count;
+use itoa::Buffer;
 use species_ast::{LexRefusal, OutOfMemory};
 use species_names::Limit;
 use species_parser::ReadRefusal;
@@ -44,6 +44,14 @@ fn put_place(place: u32, line: &mut Vec<u8>) -> Result<(), OutOfMemory>
     line.extend_from_slice(b" at ")?;
     put_count(place, line)?;
     line.extend_from_slice(b"\n")?;
+    Ok(())
+}
+
+fn put_count(count: u32, text: &mut Vec<u8>) -> Result<(), OutOfMemory>
+    ensures { OnOk result (text.new.items ≡ text.old.items ++ decimal count) }
+{
+    let mut buffer = Buffer::new();
+    text.extend_from_slice(buffer.format(count).as_bytes())?;
     Ok(())
 }
 

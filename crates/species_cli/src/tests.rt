@@ -102,7 +102,7 @@ fn tables(rt: HostRuntime) {
 
 #[test]
 fn refusals(rt: HostRuntime) {
-    let cases: [(&[u8], &[u8]); 15] = [
+    let cases: [(&[u8], &[u8]); 14] = [
         (b"int A[4]; @", b"refused 1 BadByte at 10\n"),
         (b"int A[09];", b"refused 2 BadNumber at 6\n"),
         (b"int A[4]; /* x", b"refused 3 OpenComment at 10\n"),
@@ -143,10 +143,6 @@ fn refusals(rt: HostRuntime) {
         (
             b"int A[4];\nvoid k(void) {\n#pragma omp parallel for collapse(2)\nfor (int i = 0; i < 4; i++) A[i] = 1; }",
             b"refused 13 BadMark at 62\n",
-        ),
-        (
-            b"int A[4][4]; void k(void) { for (int i = 0; i < 4; i++) A[i][0] = 1; }",
-            b"refused 19 NotBuilt at 0\n",
         ),
     ];
     let alloc = rt.alloc();
@@ -191,9 +187,29 @@ fn small_pieces_and_faults(rt: HostRuntime) {
         write_fails: 2,
         ..PLAIN
     };
-    let cases: [(Channels, &[u8], u8, &[u8], &[u8]); 6] = [
+    let cases: [(Channels, &[u8], u8, &[u8], &[u8]); 8] = [
         (slow, COPY, 0, COPY_TABLE, b""),
         (tens, COPY, 5, b"loop 41\n0 read A[0:6", b""),
+        (
+            Channels {
+                write_fails: 0,
+                ..PLAIN
+            },
+            COPY,
+            5,
+            b"",
+            b"",
+        ),
+        (
+            Channels {
+                note_fails: 0,
+                ..PLAIN
+            },
+            b"",
+            5,
+            b"",
+            b"",
+        ),
         (
             Channels {
                 read_fails: 0,
@@ -247,15 +263,20 @@ fn small_pieces_and_faults(rt: HostRuntime) {
 
 #[test]
 fn the_longest_input(rt: HostRuntime) {
-    let cases: [(usize, u8, &[u8], &[u8]); 2] = [
-        (4_194_304, 0, COPY_TABLE, b""),
-        (4_194_305, 1, b"", b"refused 18 TooLong at 4194304\n"),
+    let cut = Channels {
+        read_fails: 64,
+        ..PLAIN
+    };
+    let cases: [(usize, Channels, u8, &[u8], &[u8]); 3] = [
+        (4_194_304, PLAIN, 0, COPY_TABLE, b""),
+        (4_194_304, cut, 4, b"", b"read fault\n"),
+        (4_194_305, PLAIN, 1, b"", b"refused 18 TooLong at 4194304\n"),
     ];
     let alloc = rt.alloc();
-    for (size, status, output, notes) in cases {
+    for (size, channels, status, output, notes) in cases {
         let mut input = Vec::from_slice(alloc, COPY).expect(&rt, "memory");
         input.resize(size, b' ').expect(&rt, "memory");
-        let got = run(alloc, &["species", "arcs"], input, PLAIN).expect(&rt, "memory");
+        let got = run(alloc, &["species", "arcs"], input, channels).expect(&rt, "memory");
         assert_eq!(rt; got.0, status, "status");
         assert!(rt; got.1.bytes() == output, "output");
         assert!(rt; got.2.bytes() == notes, "notes");

@@ -1,17 +1,17 @@
 //! The call that the program makes.
-ghost use Rattle.std.specs.Prelude.{◌≡◌, ◌≢◌, ◌⊎◌, ◌≤◌, ◌<◌, ◌+◌, ◌↔◌, ℕ, List, Some, length, IsTrue};
+ghost use Rattle.std.specs.Prelude.{◌≡◌, ◌≢◌, ◌⊎◌, ◌≤◌, ◌+◌, ◌↔◌, ℕ, List, Some, IsTrue};
 ghost use Rattle.species_ast.specs.Limits.{most_bytes};
-ghost use Rattle.species_ast.specs.declared.tree.Unit.{Unit as Program};
-ghost use Rattle.species_io.specs.Told.{Rose, then_bytes, AtEnd, GaveAtMost, TookPart};
+ghost use Rattle.species_io.specs.Told.{Rose, then_bytes, AtEnd, GaveAtMost, GaveCount, TookPart};
 ghost use Rattle.species_reading.specs.declared.refusal.InputRefusal.TheVariants as input_refusal;
 ghost use Rattle.species_cli.specs.Statuses.{status_answered, status_refused, status_usage, status_undefined, status_read_fault, status_write_fault, status_memory};
-ghost use Rattle.species_cli.specs.Answer.{IsArcs, HasTable, IsNotBuilt, IsRefused, IsAnswered, IsNoted, IsPartlyAnswered, IsPartlyNoted, IsRefusedOn, IsSaid, usage_line, read_fault_line};
+ghost use Rattle.species_cli.specs.Refusals.{too_long_line};
+ghost use Rattle.species_cli.specs.Answer.{IsArcs, IsAnswer, Gave, sunk, IsAnswered, IsCutText, IsCutLine, IsSaid};
 
 use crate::refusal::line_of;
-use crate::table::table;
 use species_io::{Sink, Source, write_all};
 use species_reading::{InputRefusal, read_program_from};
-use species_reference::has_simple_loops;
+use species_report::table;
+use species_truth::law_table;
 use species_words::{Command, read_words};
 use std::alloc::Global;
 
@@ -89,49 +89,37 @@ pub fn species<S: Source, K: Sink, N: Sink>(
 ) -> u8
     ensures statuses { (result ≤ status_memory) × (result ≢ status_undefined) }
 
-    // Status 0: the table of the program that was read, and it is true.
-    ensures answered { result ≡ status_answered → (bytes : List ℕ) → S.left input.old ≡ Some bytes → IsAnswered bytes (K.taken output.old) (K.taken output.new) }
-    ensures lawful { result ≡ status_answered → IsArcs words.now }
-    ensures read_all { result ≡ status_answered → AtEnd (S.left input.new) }
+    // What the sinks took is the answer to the words and to the bytes that came. With status 0 this is the table of the arcs of the
+    // program that was read, and each line of it is true in each run.
+    ensures answered { result ≢ status_write_fault → result ≢ status_memory → (bytes : List ℕ) × Gave bytes (S.left input.old) (S.left input.new)
+        × IsAnswered words.now (Rose (S.faults input.old) (S.faults input.new)) bytes result (sunk (K.taken output.old) (N.taken notes.old)) (sunk (K.taken output.new) (N.taken notes.new)) }
 
-    // Every other status: nothing on `output`, and its line on `notes`.
+    // Any other status than 0 leaves the output as it was, and status 0 and want of memory the notes.
     ensures untouched { result ≢ status_answered → result ≢ status_write_fault → output.new ≡ output.old }
-    ensures noted { result ≢ status_answered → result ≢ status_write_fault → result ≢ status_memory → (bytes : List ℕ) → S.left input.old ≡ Some bytes
-        → IsNoted words.now (Rose (S.faults input.old) (S.faults input.new)) bytes result (N.taken notes.old) (N.taken notes.new) }
     ensures silent { (result ≡ status_answered) ⊎ (result ≡ status_memory) → notes.new ≡ notes.old }
 
-    // Status 1: the line of a refusal, and where the input is not too long it was read to its end.
-    ensures refused_line { result ≡ status_refused → IsRefusedOn (N.taken notes.old) (N.taken notes.new) }
-    ensures refused_read_all { result ≡ status_refused → (bytes : List ℕ) → S.left input.old ≡ Some bytes → length bytes ≤ most_bytes → AtEnd (S.left input.new) }
+    // Status 5: a write failed before the last byte of an answer, and the other sink is as it was.
+    ensures cut_short { result ≡ status_write_fault → (bytes : List ℕ) × Gave bytes (S.left input.old) (S.left input.new)
+        × ((IsCutText words.now (Rose (S.faults input.old) (S.faults input.new)) bytes (K.taken output.old) (K.taken output.new)
+        × Rose (K.faults output.old) (K.faults output.new) × (notes.new ≡ notes.old))
+        ⊎ (IsCutLine words.now (Rose (S.faults input.old) (S.faults input.new)) bytes (N.taken notes.old) (N.taken notes.new)
+        × Rose (N.faults notes.old) (N.faults notes.new) × (output.new ≡ output.old))) }
 
-    // Status 2: exactly where the words are not lawful, and then nothing is read.
-    ensures usage { result ≡ status_usage → (IsArcs words.now → ⊥) × (N.taken notes.new ≡ then_bytes (N.taken notes.old) usage_line) }
-    ensures unlawful { (IsArcs words.now → ⊥) → (result ≡ status_usage) ⊎ (result ≡ status_write_fault) }
-    ensures unlawful_part { (IsArcs words.now → ⊥) → result ≡ status_write_fault → TookPart (N.taken notes.old) (N.taken notes.new) usage_line × (K.taken output.new ≡ K.taken output.old) }
+    // Words that are not lawful: nothing is read, and there is memory enough.
     ensures unread { (IsArcs words.now → ⊥) → input.new ≡ input.old }
+    ensures unlawful { (IsArcs words.now → ⊥) → (result ≡ status_usage) ⊎ (result ≡ status_write_fault) }
 
-    // Statuses 4 and 5: only where a count of faults rose.
-    ensures read_fault { result ≡ status_read_fault → Rose (S.faults input.old) (S.faults input.new) × (N.taken notes.new ≡ then_bytes (N.taken notes.old) read_fault_line) }
-    ensures write_fault { result ≡ status_write_fault → Rose (K.faults output.old) (K.faults output.new) ⊎ Rose (N.faults notes.old) (N.faults notes.new) }
-    ensures cut_short { result ≡ status_write_fault → (bytes : List ℕ) → S.left input.old ≡ Some bytes
-        → (IsPartlyAnswered words.now bytes (K.taken output.old) (K.taken output.new)
-        × (N.taken notes.new ≡ N.taken notes.old) × Rose (K.faults output.old) (K.faults output.new))
-        ⊎ (IsPartlyNoted words.now (Rose (S.faults input.old) (S.faults input.new)) bytes (N.taken notes.old) (N.taken notes.new)
-        × (K.taken output.new ≡ K.taken output.old) × Rose (N.faults notes.old) (N.faults notes.new)) }
-
-    // Once more bytes than the limit came, no more is asked.
+    // The input was read to its end, unless it is too long. Once more bytes than the limit came, no more is asked.
+    ensures read_all { result ≡ status_answered → AtEnd (S.left input.new) }
+    ensures refused_read_all { result ≡ status_refused → AtEnd (S.left input.new)
+        ⊎ (GaveCount (most_bytes + 1) (S.left input.old) (S.left input.new) × (N.taken notes.new ≡ then_bytes (N.taken notes.old) too_long_line)) }
     ensures budget { GaveAtMost (most_bytes + 1) (S.left input.old) (S.left input.new) }
-    ensures failed_within { result ≡ status_read_fault → GaveAtMost most_bytes (S.left input.old) (S.left input.new) }
+    ensures failed { result ≡ status_read_fault → GaveAtMost most_bytes (S.left input.old) (S.left input.new) }
 
-    // Where no count rose, the answer is the defined one, or there was not enough memory.
-    ensures complete { (bytes : List ℕ) → S.left input.old ≡ Some bytes → IsArcs words.now
-        → (program : Program) → HasTable bytes program
+    // Where no count of faults rose, an answer to the bytes is given, or there was not enough memory.
+    ensures exact { (bytes : List ℕ) (status : ℕ) (text line : List ℕ) → S.left input.old ≡ Some bytes → IsAnswer words.now ⊥ bytes status text line
         → (Rose (S.faults input.old) (S.faults input.new) → ⊥) → (Rose (K.faults output.old) (K.faults output.new) → ⊥) → (Rose (N.faults notes.old) (N.faults notes.new) → ⊥)
-        → (result ≡ status_answered) ⊎ (result ≡ status_memory) }
-    ensures refuses { (bytes : List ℕ) → S.left input.old ≡ Some bytes → IsArcs words.now
-        → (most_bytes < length bytes) ⊎ (((line : List ℕ) × IsRefused bytes line) ⊎ ((program : Program) × IsNotBuilt bytes program))
-        → (Rose (S.faults input.old) (S.faults input.new) → ⊥) → (Rose (N.faults notes.old) (N.faults notes.new) → ⊥)
-        → (result ≡ status_refused) ⊎ (result ≡ status_memory) }
+        → (result ≡ status) ⊎ (result ≡ status_memory) }
 {
     if !is_arcs(words) {
         return say(
@@ -144,13 +132,11 @@ pub fn species<S: Source, K: Sink, N: Sink>(
         Ok(unit) => unit,
         Err(refusal) => return refuse(alloc, notes, refusal),
     };
-    if !has_simple_loops(&unit) {
-        return say(notes, b"refused 19 NotBuilt at 0\n", REFUSED);
-    }
     let text = match table(alloc, &unit) {
         Ok(text) => text,
         Err(_) => return MEMORY,
     };
+    law_table();
     match write_all(output, &text) {
         Ok(()) => ANSWERED,
         Err(_) => WRITE_FAULT,

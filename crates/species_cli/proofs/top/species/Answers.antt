@@ -1,84 +1,68 @@
-use Rattle.std.proofs.Common.{rules, arith, ap, refl, inl, inr, ◌≡◌, ◌≢◌, true, false}
-use Rattle.species_reference.specs.Shape.{has_simple_loops}
-use Rattle.species_cli.specs.Answer.{IsArcs, HasLine, usage_line}
-use Rattle.species_cli.specs.Refusals.{not_built_line}
-use Rattle.species_cli.proofs.TopLemmas.{err, noted, partly_noted, has_line, partly_lined, refused_line, is_not_built, answered, tabled, untabled, wanting}
+use Rattle.std.proofs.Common.{rules, arith, ap, refl, inl, inr, ◌≡◌, ◌≢◌}
+use Rattle.species_cli.specs.Answer.{IsArcs}
+use Rattle.species_cli.proofs.TopLemmas.{err, gave_usage, cut_usage, came, gave_said, cut_said, read_to_end, came_as, gave_table, cut_table, unlawful_status, program_status, unread_status}
 use Rattle.species_cli.proofs.top.species.Goals as goal
 
-pub returns-then-not-is_arcs-clause-noted : goal.returns-then-not-is_arcs-clause-noted
-returns-then-not-is_arcs-clause-noted g c = λ p q r bytes told.
+pub returns-then-not-is_arcs-clause-answered : goal.returns-then-not-is_arcs-clause-answered
+returns-then-not-is_arcs-clause-answered g c = λ p q.
     let unlawful : IsArcs c.args.words.now → ⊥ = search rules in
-    noted c.args.words.now _ bytes 2 c.say.result usage_line _ _ (HasLine.usage unlawful) c.say.ensures.status c.say.ensures.whole p q r
+    gave_usage c.args.words.now _ _ _ _ _ c.say.result unlawful c.say.ensures.status c.say.ensures.whole p
 
 pub returns-then-not-is_arcs-clause-cut_short : goal.returns-then-not-is_arcs-clause-cut_short
-returns-then-not-is_arcs-clause-cut_short g c = λ cut bytes told.
+returns-then-not-is_arcs-clause-cut_short g c = λ cut.
     let unlawful : IsArcs c.args.words.now → ⊥ = search rules in
-    partly_noted c.args.words.now _ bytes 2 c.say.result usage_line _ _ _ _ (HasLine.usage unlawful) c.say.ensures.part c.say.ensures.fault _ cut
+    cut_usage c.args.words.now _ _ _ _ _ _ _ unlawful (c.say.ensures.part cut) (c.say.ensures.fault cut) refl
 
-pub returns-in-Err-clause-noted : goal.returns-in-Err-clause-noted
-returns-in-Err-clause-noted g c = λ p q r bytes told.
+pub returns-then-not-is_arcs-clause-exact : goal.returns-then-not-is_arcs-clause-exact
+returns-then-not-is_arcs-clause-exact g c = λ bytes status text line told is p q r.
+    let unlawful : IsArcs c.args.words.now → ⊥ = search rules in
+    unlawful_status c.args.words.now bytes status c.say.result text line _ unlawful is c.say.ensures.status c.say.ensures.fault r
+
+pub returns-in-Err-clause-answered : goal.returns-in-Err-clause-answered
+returns-in-Err-clause-answered g c = λ p q.
     let lawful : IsArcs c.args.words.now = c.is_arcs.ensures.0 (search rules) in
-    let line = c.refuse.ensures.said q r in
-    (line.0, has_line c.args.words.now _ bytes c.in-Err.refusal _ line.0 lawful (λ e. c.in-Err.ensures.fault (ap err e)) (c.in-Err.ensures.answers bytes told) line.1, line.2)
+    gave_said c.args.words.now _ c.in-Err.refusal _ _ _ _ _ c.refuse.result lawful (λ e. c.in-Err.ensures.fault (ap err e))
+    (came c.in-Err.refusal _ _ c.in-Err.ensures.read c.in-Err.ensures.stopped c.in-Err.ensures.budget) (c.refuse.ensures.said p q)
 
-pub returns-in-Err-clause-refused_line : goal.returns-in-Err-clause-refused_line
-returns-in-Err-clause-refused_line g c = λ is.
+pub returns-in-Err-clause-cut_short : goal.returns-in-Err-clause-cut_short
+returns-in-Err-clause-cut_short g c = λ cut.
+    let lawful : IsArcs c.args.words.now = c.is_arcs.ensures.0 (search rules) in
+    cut_said c.args.words.now _ c.in-Err.refusal _ _ _ _ _ _ _ lawful (λ e. c.in-Err.ensures.fault (ap err e))
+    (came c.in-Err.refusal _ _ c.in-Err.ensures.read c.in-Err.ensures.stopped c.in-Err.ensures.budget) (c.refuse.ensures.part cut) (c.refuse.ensures.fault cut) refl
+
+pub returns-in-Err-clause-refused_read_all : goal.returns-in-Err-clause-refused_read_all
+returns-in-Err-clause-refused_read_all g c = λ is.
     let apart : c.refuse.result ≢ 5 = λ cut. absurd (omega (arith, is, cut)) in
     let other : c.refuse.result ≢ 6 = λ none. absurd (omega (arith, is, none)) in
     let line = c.refuse.ensures.said apart other in
-    (line.0, refused_line c.in-Err.refusal c.refuse.result line.0 is line.1, line.2)
+    read_to_end c.in-Err.refusal c.refuse.result line.0 _ _ _ _ is c.in-Err.ensures.stopped c.in-Err.ensures.read line.1 line.2
 
-pub returns-in-Err-clause-cut_short : goal.returns-in-Err-clause-cut_short
-returns-in-Err-clause-cut_short g c = λ cut bytes told.
+pub returns-in-Err-clause-failed : goal.returns-in-Err-clause-failed
+returns-in-Err-clause-failed g c = λ is.
+    let apart : c.refuse.result ≢ 5 = λ cut. absurd (omega (arith, is, cut)) in
+    let other : c.refuse.result ≢ 6 = λ none. absurd (omega (arith, is, none)) in
+    let line = c.refuse.ensures.said apart other in
+    c.in-Err.ensures.failed (ap err (is_read_fault c.in-Err.refusal c.refuse.result line.0 is line.1))
+
+pub returns-in-Err-clause-exact : goal.returns-in-Err-clause-exact
+returns-in-Err-clause-exact g c = λ bytes status text line told is p q r.
     let lawful : IsArcs c.args.words.now = c.is_arcs.ensures.0 (search rules) in
-    inr (
-      partly_lined c.args.words.now _ bytes c.in-Err.refusal _ _ lawful (λ e. c.in-Err.ensures.fault (ap err e)) (c.in-Err.ensures.answers bytes told) (c.refuse.ensures.part cut),
-      refl,
-      c.refuse.ensures.fault cut,
-    )
-
-pub returns-in-Err-clause-complete : goal.returns-in-Err-clause-complete
-returns-in-Err-clause-complete g c = λ bytes told lawful program is p q r.
-    inr (c.refuse.ensures.memory (wanting bytes c.in-Err.refusal program _ (λ answer short holds. c.in-Err.ensures.exact bytes answer told short holds) is
-    (λ e. c.in-Err.ensures.fault (ap err e)) p))
-
-pub returns-then-not-has_simple_loops-clause-noted : goal.returns-then-not-has_simple_loops-clause-noted
-returns-then-not-has_simple_loops-clause-noted g c = λ p q r bytes told.
-    let lawful : IsArcs c.args.words.now = c.is_arcs.ensures.0 (search rules) in
-    let other : has_simple_loops c.in-Ok.unit ≡ false = search rules in
-    noted c.args.words.now _ bytes 1 c.say-then-not-has_simple_loops.result not_built_line _ _
-    (HasLine.not_built lawful c.in-Ok.unit (is_not_built bytes c.in-Ok.unit (c.in-Ok.ensures.answers bytes told) other))
-    c.say-then-not-has_simple_loops.ensures.status c.say-then-not-has_simple_loops.ensures.whole p q r
-
-pub returns-then-not-has_simple_loops-clause-refused_line : goal.returns-then-not-has_simple_loops-clause-refused_line
-returns-then-not-has_simple_loops-clause-refused_line g c = λ is.
-    let apart : c.say-then-not-has_simple_loops.result ≢ 5 = λ cut. absurd (omega (arith, is, cut)) in
-    (not_built_line, inr (inl refl), c.say-then-not-has_simple_loops.ensures.whole apart)
-
-pub returns-then-not-has_simple_loops-clause-cut_short : goal.returns-then-not-has_simple_loops-clause-cut_short
-returns-then-not-has_simple_loops-clause-cut_short g c = λ cut bytes told.
-    let lawful : IsArcs c.args.words.now = c.is_arcs.ensures.0 (search rules) in
-    let other : has_simple_loops c.in-Ok.unit ≡ false = search rules in
-    partly_noted c.args.words.now _ bytes 1 c.say-then-not-has_simple_loops.result not_built_line _ _ _ _
-    (HasLine.not_built lawful c.in-Ok.unit (is_not_built bytes c.in-Ok.unit (c.in-Ok.ensures.answers bytes told) other))
-    c.say-then-not-has_simple_loops.ensures.part c.say-then-not-has_simple_loops.ensures.fault _ cut
-
-pub returns-then-not-has_simple_loops-clause-complete : goal.returns-then-not-has_simple_loops-clause-complete
-returns-then-not-has_simple_loops-clause-complete g c = λ bytes told lawful program is p q r.
-    let other : has_simple_loops c.in-Ok.unit ≡ false = search rules in
-    absurd (untabled bytes c.in-Ok.unit program other (λ answer short holds. c.in-Ok.ensures.exact bytes answer told short holds) is)
+    unread_status c.args.words.now bytes status c.refuse.result text line c.in-Err.refusal _ _ _ _ lawful is (λ answer short holds. c.in-Err.ensures.exact bytes answer told short holds)
+    c.refuse.ensures.statuses c.refuse.ensures.said c.refuse.ensures.memory (λ e. c.in-Err.ensures.fault (ap err e)) c.refuse.ensures.fault p r
 
 pub returns-in-Ok-write_all-clause-answered : goal.returns-in-Ok-write_all-clause-answered
-returns-in-Ok-write_all-clause-answered g c = λ is bytes told.
-    let simple : has_simple_loops c.in-Ok.unit ≡ true = search rules in
-    answered bytes _ _ c.in-Ok.unit _ _ (c.in-Ok.ensures.answers bytes told) simple c.in-Ok-table.ensures c.deref.ensures.value c.in-Ok-write_all.ensures.ok
+returns-in-Ok-write_all-clause-answered g c = λ p q.
+    let lawful : IsArcs c.args.words.now = c.is_arcs.ensures.0 (search rules) in
+    gave_table c.law_table.ensures c.args.words.now _ c.in-Ok.unit _ _ _ _ _ _ _ lawful c.in-Ok.ensures.made c.in-Ok-table.ensures c.deref.ensures.value
+    (came_as c.in-Ok.unit _ _ (c.in-Ok.ensures.read tt)) c.in-Ok-write_all.ensures.ok
 
-pub returns-in-Ok-write_all-clause-refuses : goal.returns-in-Ok-write_all-clause-refuses
-returns-in-Ok-write_all-clause-refuses g c = λ bytes told lawful none p q.
-    let simple : has_simple_loops c.in-Ok.unit ≡ true = search rules in
-    absurd (tabled bytes c.in-Ok.unit (c.in-Ok.ensures.answers bytes told) simple (λ answer short holds. c.in-Ok.ensures.exact bytes answer told short holds) none)
+pub returns-in-Ok-write_all-clause-exact : goal.returns-in-Ok-write_all-clause-exact
+returns-in-Ok-write_all-clause-exact g c = λ bytes status text line told is p q r.
+    let lawful : IsArcs c.args.words.now = c.is_arcs.ensures.0 (search rules) in
+    inl (program_status c.args.words.now bytes status text line c.in-Ok.unit lawful is (c.in-Ok.ensures.answers bytes told) (λ answer short holds. c.in-Ok.ensures.exact bytes answer told short holds))
 
-pub returns-clause-refuses : goal.returns-clause-refuses
-returns-clause-refuses g c = λ bytes told lawful none p q.
-    let simple : has_simple_loops c.in-Ok.unit ≡ true = search rules in
-    absurd (tabled bytes c.in-Ok.unit (c.in-Ok.ensures.answers bytes told) simple (λ answer short holds. c.in-Ok.ensures.exact bytes answer told short holds) none)
+pub returns-clause-cut_short : goal.returns-clause-cut_short
+returns-clause-cut_short g c = λ cut.
+    let lawful : IsArcs c.args.words.now = c.is_arcs.ensures.0 (search rules) in
+    cut_table c.law_table.ensures c.args.words.now _ c.in-Ok.unit _ _ _ _ _ _ _ _ _ lawful c.in-Ok.ensures.made c.in-Ok-table.ensures c.deref.ensures.value
+    (came_as c.in-Ok.unit _ _ (c.in-Ok.ensures.read tt)) c.in-Err-write_all.ensures.part c.in-Err-write_all.ensures.fault refl

@@ -1,3 +1,0 @@
-pub mod References
-pub mod Seen
-pub mod Shape
