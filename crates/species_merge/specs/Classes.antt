@@ -33,8 +33,8 @@ same_terms (t ∷ ts) (u ∷ us) = nat_eq t.level u.level && (int_eq t.coefficie
 
 -- ---- which references are alike
 
--- The iterators below level `top` are those of the loops around the nest and of its band. The subscripts have equal
--- coefficients of these.
+-- The iterators below level `top` are the outer ones: the band's, and those of loops in which the nest stands. The subscripts
+-- have equal coefficients of these.
 abbrev pub same_front : ℕ → Subscript → Subscript → Bool
 same_front top s q = same_terms (terms_below top (terms_of s)) (terms_below top (terms_of q))
 

@@ -35,7 +35,7 @@ are_apart ts us = not (list_any (λ t. names_level us t.level) ts)
 abbrev pub are_apart_inside : ℕ → Subscript → Subscript → Bool
 are_apart_inside top s q = are_apart (inner_terms top s) (inner_terms top q)
 
--- each inner iterator that occurs does so in one dimension, alone of the inner iterators there
+-- no dimension has two inner iterators, and no two dimensions have the same
 abbrev pub is_free : ℕ → List Subscript → Bool
 is_free top [] = true
 is_free top (s ∷ ss) = nat_le (length (inner_terms top s)) 1 && (list_all (are_apart_inside top s) ss && is_free top ss)

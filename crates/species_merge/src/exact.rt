@@ -92,7 +92,7 @@ fn is_apart_from(first: &Subscript, others: &[Subscript], top: usize) -> bool
     true
 }
 
-/// Whether each inner iterator that occurs does so in one dimension, alone of the inner iterators there.
+/// Whether no dimension has two inner iterators, and no two dimensions have the same.
 fn is_free(subs: &[Subscript], top: usize) -> bool
     ensures { result ≡ is_free top subs.now }
 {

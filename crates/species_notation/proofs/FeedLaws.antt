@@ -218,10 +218,12 @@ each_mapped P f [] h = tt
 each_mapped P f (x ∷ xs) h = (h.0, each_mapped P f xs h.1)
 
 list_good : (w : List ℕ) (ds : List ArcDim) → Each (IsReadableDim (w ∷ [])) ds → AreGood (offsets_parts (Some (map written_offset ds)))
-list_good w ds h =
-    (refl, each_append Good (listed_parts 44 offset_parts (map written_offset ds)) (part.Sign 41 ∷ [])
-    (listed_good 44 offset_parts (map written_offset ds) refl (each_mapped (λ o. AreGood (offset_parts o)) written_offset ds (weaker (IsReadableDim (w ∷ [])) (λ d. AreGood (offset_parts (written_offset d))) (offset_good w) ds h)))
-    (refl, tt))
+list_good w ds h = (
+  refl,
+  each_append Good (listed_parts 44 offset_parts (map written_offset ds)) (part.Sign 41 ∷ [])
+      (listed_good 44 offset_parts (map written_offset ds) refl (each_mapped (λ o. AreGood (offset_parts o)) written_offset ds (weaker (IsReadableDim (w ∷ [])) (λ d. AreGood (offset_parts (written_offset d))) (offset_good w) ds h)))
+      (refl, tt),
+)
 
 offsets_good : (w : List ℕ) (x : Word) (ds : List ArcDim) → Each (IsReadableDim (w ∷ [])) ds → AreGood (offsets_parts (written_offsets x ds))
 offsets_good w word.Element ds h = tt
