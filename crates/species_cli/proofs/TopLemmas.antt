@@ -1,5 +1,5 @@
 -- What the top call leaves with each status.
-use Rattle.std.proofs.Common.{◌≡◌, ◌≢◌, ◌⊎◌, inl, inr, ◌∙◌, ap, sym, refl, subst, arith, append_nil, ℕ, ◌+◌, ◌≤◌, ◌<◌, List, [], ◌++◌, length, Option, Some, None, Result, Ok, Err, String, Global}
+use Rattle.std.proofs.Common.{◌≡◌, ◌≢◌, ◌⊎◌, inl, inr, ◌∙◌, ap, sym, refl, subst, arith, append-nil, ℕ, ◌+◌, ◌≤◌, ◌<◌, List, [], ◌++◌, length, Option, Some, None, Result, Ok, Err, String, Global}
 use Rattle.species_ast.specs.Limits.{most_bytes}
 use Rattle.species_ast.specs.declared.raw.RawUnit.{RawUnit}
 use Rattle.species_ast.specs.declared.tree.Unit.{Unit as Program}
@@ -25,7 +25,7 @@ gave_nothing (Some bytes) = refl
 
 nothing_more : (told : Option (List ℕ)) → told ≡ then_bytes told []
 nothing_more None = refl
-nothing_more (Some bytes) = ap (λ (x : List ℕ). Some x) (sym (append_nil bytes))
+nothing_more (Some bytes) = ap (λ (x : List ℕ). Some x) (sym (append-nil bytes))
 
 abbrev pub err : InputRefusal → Result Program InputRefusal
 err r = Err r
@@ -39,8 +39,8 @@ gave_usage words rose told out old new result none (inl same) whole p =
     ([], gave_nothing told, record { text = []; line = usage_line; answer = subst (λ s. IsAnswer words rose [] s [] usage_line) (sym same) (IsAnswer.usage none); output = nothing_more out; notes = whole p })
 gave_usage words rose told out old new result none (inr cut) whole p = absurd (p cut)
 
-pub cut_usage : (words : List (String Global)) (rose : Type 0) (told old new : Option (List ℕ)) (P fault same : Type 0) → (IsArcs words → ⊥) → TookPart old new usage_line → fault → same
-    → (bytes : List ℕ) × Gave bytes told told × (P ⊎ (IsCutLine words rose bytes old new × fault × same))
+pub cut_usage : (words : List (String Global)) (rose : Type 0) (told old new : Option (List ℕ)) (P : List ℕ → Type 0) (fault same : Type 0) → (IsArcs words → ⊥) → TookPart old new usage_line → fault → same
+    → (bytes : List ℕ) × Gave bytes told told × (P bytes ⊎ (IsCutLine words rose bytes old new × fault × same))
 cut_usage words rose told old new P fault same none part rises kept =
     ([], gave_nothing told, inr (record { status = 2; text = []; line = usage_line; answer = IsAnswer.usage none; part = part }, rises, kept))
 
@@ -115,9 +115,9 @@ gave_said words rose refusal had left out old new status lawful fault of (line, 
   },
 )
 
-pub cut_said : (words : List (String Global)) (rose : Type 0) (refusal : InputRefusal) (had left old new : Option (List ℕ)) (P fall same : Type 0) → IsArcs words
+pub cut_said : (words : List (String Global)) (rose : Type 0) (refusal : InputRefusal) (had left old new : Option (List ℕ)) (P : List ℕ → Type 0) (fall same : Type 0) → IsArcs words
     → (refusal ≡ input.ReadFault → rose) → Came refusal had left → (s : ℕ) × (x : List ℕ) × IsSaid refusal s x × TookPart old new x → fall → same
-    → (bytes : List ℕ) × Gave bytes had left × (P ⊎ (IsCutLine words rose bytes old new × fall × same))
+    → (bytes : List ℕ) × Gave bytes had left × (P bytes ⊎ (IsCutLine words rose bytes old new × fall × same))
 cut_said words rose refusal had left old new P fall same lawful fault of (status, line, is, part) falls kept = (
   of.bytes,
   of.gave,
@@ -185,9 +185,9 @@ gave_table law words rose u text written had left old new notes lawful made tabl
   },
 )
 
-pub cut_table : (law : TablesAreTrue) (words : List (String Global)) (rose : Type 0) (u : Program) (text written : List ℕ) (had left old new : Option (List ℕ)) (P fall same : Type 0) → IsArcs words
+pub cut_table : (law : TablesAreTrue) (words : List (String Global)) (rose : Type 0) (u : Program) (text written : List ℕ) (had left old new : Option (List ℕ)) (P : List ℕ → Type 0) (fall same : Type 0) → IsArcs words
     → IsWellMade u → IsTable u text → written ≡ text → CameAs u had left → TookPart old new written → fall → same
-    → (bytes : List ℕ) × Gave bytes had left × ((IsCutText words rose bytes old new × fall × same) ⊎ P)
+    → (bytes : List ℕ) × Gave bytes had left × ((IsCutText words rose bytes old new × fall × same) ⊎ P bytes)
 cut_table law words rose u text written had left old new P fall same lawful made table is of part falls kept = (
   of.bytes,
   of.gave,
@@ -209,12 +209,12 @@ cut_table law words rose u text written had left old new P fall same lawful made
 -- words that are not lawful have no other
 pub unlawful_status : (words : List (String Global)) (bytes : List ℕ) (status result : ℕ) (text line : List ℕ) (fell : Type 0) → (IsArcs words → ⊥) → IsAnswer words ⊥ bytes status text line
     → (result ≡ 2) ⊎ (result ≡ 5) → (result ≡ 5 → fell) → (fell → ⊥) → (result ≡ status) ⊎ (result ≡ 6)
-unlawful_status words bytes status result text line fell none (IsAnswer.usage no) (inl same) cut p = inl same
-unlawful_status words bytes status result text line fell none (IsAnswer.usage no) (inr five) cut p = absurd (p (cut five))
+unlawful_status words bytes status result text line fell none (IsAnswer.usage unlawful) (inl same) cut p = inl same
+unlawful_status words bytes status result text line fell none (IsAnswer.usage unlawful) (inr five) cut p = absurd (p (cut five))
 unlawful_status words bytes status result text line fell none (IsAnswer.read_fault lawful rose) h cut p = absurd rose
 unlawful_status words bytes status result text line fell none (IsAnswer.too_long lawful long) h cut p = absurd (none lawful)
 unlawful_status words bytes status result text line fell none (IsAnswer.refused lawful l is) h cut p = absurd (none lawful)
-unlawful_status words bytes status result text line fell none (IsAnswer.arcs lawful u t is table true) h cut p = absurd (none lawful)
+unlawful_status words bytes status result text line fell none (IsAnswer.arcs lawful u t is table holds) h cut p = absurd (none lawful)
 
 same_unit : (u v : Program) → IsUnlessStopped (Ok u) (Ok v) → u ≡ v
 same_unit u v (inl same) = cc
@@ -237,11 +237,11 @@ IsReadAs result bytes = (answer : Result Program ProgramRefusal) → length byte
 -- a program that is read has the answer of its table
 pub program_status : (words : List (String Global)) (bytes : List ℕ) (status : ℕ) (text line : List ℕ) (u : Program) → IsArcs words → IsAnswer words ⊥ bytes status text line
     → InputAnswers bytes (Ok u) → IsReadAs (Ok u) bytes → 0 ≡ status
-program_status words bytes status text line u lawful (IsAnswer.usage no) h exact = absurd (no lawful)
+program_status words bytes status text line u lawful (IsAnswer.usage unlawful) h exact = absurd (unlawful lawful)
 program_status words bytes status text line u lawful (IsAnswer.read_fault l rose) h exact = absurd rose
 program_status words bytes status text line u lawful (IsAnswer.too_long l long) h exact = absurd (omega (arith, long, h.0))
 program_status words bytes status text line u lawful (IsAnswer.refused l x is) h exact = absurd (not_refused u is.refusal x is.said (exact (Err is.refusal) is.short is.holds))
-program_status words bytes status text line u lawful (IsAnswer.arcs l v t is table true) h exact = refl
+program_status words bytes status text line u lawful (IsAnswer.arcs l v t is table holds) h exact = refl
 
 -- an input that is a program is refused for want of memory alone
 wanting : (bytes : List ℕ) (refusal : InputRefusal) (v : Program) (rose : Type 0) → IsReadAs (Err refusal) bytes → IsProgram bytes v
@@ -272,11 +272,11 @@ pub unread_status : (words : List (String Global)) (bytes : List ℕ) (status re
     → (result ≡ 1) ⊎ ((result ≡ 4) ⊎ ((result ≡ 5) ⊎ (result ≡ 6)))
     → (result ≢ 5 → result ≢ 6 → (line : List ℕ) × IsSaid refusal result line × (new ≡ then_bytes old line))
     → (refusal ≡ input.Memory → result ≡ 6) → (refusal ≡ input.ReadFault → rose) → (result ≡ 5 → fell) → (rose → ⊥) → (fell → ⊥) → (result ≡ status) ⊎ (result ≡ 6)
-unread_status words bytes status result text line refusal rose fell old new lawful (IsAnswer.usage no) exact h said memory fault cut p q = absurd (no lawful)
+unread_status words bytes status result text line refusal rose fell old new lawful (IsAnswer.usage unlawful) exact h said memory fault cut p q = absurd (unlawful lawful)
 unread_status words bytes status result text line refusal rose fell old new lawful (IsAnswer.read_fault l came) exact h said memory fault cut p q = absurd came
 unread_status words bytes status result text line refusal rose fell old new lawful (IsAnswer.too_long l long) exact h said memory fault cut p q =
     refused_status result refusal rose fell old new h said fault cut p q
 unread_status words bytes status result text line refusal rose fell old new lawful (IsAnswer.refused l x is) exact h said memory fault cut p q =
     refused_status result refusal rose fell old new h said fault cut p q
-unread_status words bytes status result text line refusal rose fell old new lawful (IsAnswer.arcs l v t is table true) exact h said memory fault cut p q =
+unread_status words bytes status result text line refusal rose fell old new lawful (IsAnswer.arcs l v t is table holds) exact h said memory fault cut p q =
     inr (memory (wanting bytes refusal v rose exact is fault p))

@@ -1,6 +1,6 @@
 use Rattle.std.proofs.Common.{rules, arith, ap, refl, inl, inr, ◌≡◌, ◌≢◌}
 use Rattle.species_cli.specs.Answer.{IsArcs}
-use Rattle.species_cli.proofs.TopLemmas.{err, gave_usage, cut_usage, came, gave_said, cut_said, read_to_end, came_as, gave_table, cut_table, unlawful_status, program_status, unread_status}
+use Rattle.species_cli.proofs.TopLemmas.{err, gave_usage, cut_usage, came, gave_said, cut_said, is_read_fault, read_to_end, came_as, gave_table, cut_table, unlawful_status, program_status, unread_status}
 use Rattle.species_cli.proofs.top.species.Goals as goal
 
 pub returns-then-not-is_arcs-clause-answered : goal.returns-then-not-is_arcs-clause-answered
