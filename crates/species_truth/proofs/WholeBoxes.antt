@@ -14,14 +14,14 @@ use Rattle.species_ast.specs.Scope.Forms as text
 use Rattle.species_ast.specs.Scope.Hulls.{Range, is_empty, has_empty, least_product, greatest_product, least_sum, greatest_sum}
 use Rattle.species_ast.proofs.Induction.{Each}
 use Rattle.species_merge.specs.Classes.{no_box, box_at}
-use Rattle.species_merge.specs.Law.{IsSettled}
+use Rattle.species_merge.specs.Law.{IsFullyTaken}
 use Rattle.species_merge.specs.Sizes.{IsSmallBox}
 use Rattle.species_references.specs.Boxes.{inner_part, has_constant_bounds, unit_of, gap_of, gaps_of, IsStrideOf, IsBoxOf, whole, IsBoxIn, AreBoxes}
 
 -- ---- ranges
 
 abbrev pub Settles : Range → Type 0
-Settles r = IsTrue (has_constant_bounds r) → r.low ≤ℤ r.high → IsSettled r
+Settles r = IsTrue (has_constant_bounds r) → r.low ≤ℤ r.high → IsFullyTaken r
 
 -- the unit divides the way from one end to the other, in either direction
 abbrev IsWholeRange : Range → Type 0
