@@ -1,10 +1,9 @@
 -- What the top call leaves with each status.
-use Rattle.std.proofs.Common.{◌≡◌, ◌≢◌, ◌⊎◌, inl, inr, ◌∙◌, ap, sym, refl, subst, arith, append-nil, ℕ, ◌+◌, ◌≤◌, ◌<◌, List, [], ◌++◌, length, Option, Some, None, Result, Ok, Err, String, Global}
+use Rattle.std.proofs.Common.{◌≡◌, ◌≢◌, ◌⊎◌, inl, inr, ◌∙◌, ap, sym, refl, subst, arith, append-nil, ℕ, ◌+◌, ◌≤◌, List, [], length, Option, Some, None, Result, Ok, Err, String, Global}
 use Rattle.species_ast.specs.Limits.{most_bytes}
-use Rattle.species_ast.specs.declared.raw.RawUnit.{RawUnit}
 use Rattle.species_ast.specs.declared.tree.Unit.{Unit as Program}
 use Rattle.species_ast.specs.Scope.WellMade.{IsWellMade}
-use Rattle.species_io.specs.Told.{before, then_bytes, TookPart, AtEnd, GaveAtMost, GaveCount}
+use Rattle.species_io.specs.Told.{then_bytes, TookPart, AtEnd, GaveAtMost, GaveCount}
 use Rattle.species_reading.specs.Answers.{Answers, IsResolved, IsUnread, IsOutOfScope}
 use Rattle.species_reading.specs.Input.{in_input, IsOfProgram, WasRead, InputAnswers, IsUnlessStopped}
 use Rattle.species_reading.specs.declared.refusal.ProgramRefusal.{ProgramRefusal}
@@ -13,7 +12,7 @@ use Rattle.species_reading.specs.declared.refusal.InputRefusal.{InputRefusal}
 use Rattle.species_reading.specs.declared.refusal.InputRefusal.TheVariants as input
 use Rattle.species_report.specs.Table.{IsTable}
 use Rattle.species_scope.specs.Answers.{finding_of}
-use Rattle.species_truth.specs.Truth.{IsTrueTable, TablesAreTrue}
+use Rattle.species_truth.specs.Truth.{TablesAreTrue}
 use Rattle.species_cli.specs.Refusals.{refusal_line, too_long_line}
 use Rattle.species_cli.specs.Answer.{IsArcs, IsProgram, IsRefused, IsAnswer, Gave, sunk, IsAnswered, IsCutText, IsCutLine, IsSaid, usage_line}
 

@@ -1,6 +1,6 @@
 -- Forms that have one value at all points have no terms, and the ends of an index over a band with constant bounds are such.
-use Rattle.std.proofs.Common.{◌≡◌, refl, ap, sym, ◌∙◌, subst, arith, ℕ, zero, suc, ◌+◌, ◌-◌, ◌*◌, ◌<◌, ◌≤◌, ◌^◌, Bool, true, false, nat_eq, nat_lt, if◌then◌else◌, List, [], ◌∷◌, length, ℤ, pos, negsuc, ◌+ℤ◌, ◌-ℤ◌, ◌*ℤ◌, ◌≤ℤ◌, All}
-use Rattle.std.specs.Prelude.{int_lt, slice_index_or}
+use Rattle.std.proofs.Common.{◌≡◌, refl, ap, sym, ◌∙◌, arith, ℕ, zero, suc, ◌+◌, ◌-◌, ◌*◌, ◌<◌, ◌≤◌, ◌^◌, Bool, true, false, nat_eq, nat_lt, if◌then◌else◌, List, [], ◌∷◌, ℤ, pos, ◌+ℤ◌, ◌*ℤ◌}
+use Rattle.std.specs.Prelude.{int_lt}
 use Rattle.std.specs.Int.RustNames.{unsigned_abs}
 use Rattle.std.proofs.lemmas.Bool.{eq-eqb}
 use Rattle.std.proofs.lemmas.Bool.Decides.{nat_tests}
@@ -14,7 +14,7 @@ use Rattle.species_linear.specs.declared.forms.Term.{Term}
 use Rattle.species_linear.specs.Point.{Point}
 use Rattle.species_linear.specs.Rising.{IsRisingFrom, IsRising}
 use Rattle.species_linear.specs.Value.{sum_at, form_at, coefficient_at}
-use Rattle.species_merge.specs.Bands.{zero_form, no_bound, bound_at, end_form, ends_at, IsEndOf}
+use Rattle.species_merge.specs.Bands.{zero_form, bound_at, end_form, ends_at, IsEndOf}
 use Rattle.species_merge.specs.declared.bands.BandBound.{BandBound}
 
 -- ---- one value at all points

@@ -1,31 +1,28 @@
 -- The loops of a well made unit that stand in no other go from a constant to a constant, with small ends and a small step.
-use Rattle.std.proofs.Common.{◌≡◌, refl, ap, sym, ◌∙◌, subst, arith, ℕ, zero, suc, ◌≤◌, ◌^◌, Bool, true, false, ◌&&◌, if◌then◌else◌, List, [], ◌∷◌, ◌++◌, map, ℤ, pos, Option, Some, None}
+use Rattle.std.proofs.Common.{◌≡◌, refl, ap, sym, ◌∙◌, subst, arith, ℕ, ◌≤◌, Bool, true, false, ◌&&◌, if◌then◌else◌, List, [], ◌∷◌, ◌++◌, map, ℤ, Option, Some, None}
 use Rattle.std.specs.Prelude.{nat_lt, is_some}
 use Rattle.std.specs.Int.RustNames.{unsigned_abs}
 use Rattle.std.specs.List.{list_all, flat_map, Contains}
-use Rattle.std.specs.Ordering.{int_eq}
 use Rattle.std.proofs.lemmas.Bool.{and_parts}
 use Rattle.std.proofs.lemmas.Bool.Decides.{nat_tests}
-use Rattle.std.proofs.lemmas.Int.{ints}
 use Rattle.species_ast.specs.declared.tree.Expr.{Expr}
 use Rattle.species_ast.specs.declared.tree.Loop.{Loop, roll-Loop, out-Loop, roll-out-Loop}
 use Rattle.species_ast.specs.declared.tree.Stmt.{Stmt}
-use Rattle.species_ast.specs.declared.tree.Stmt.TheOpen.{Loop-F}
 use Rattle.species_ast.specs.declared.tree.Stmt.TheVariants as stmt
 use Rattle.species_ast.specs.declared.tree.Test.{Test}
 use Rattle.species_ast.specs.declared.tree.Test.TheVariants.{Lt, Le, Gt, Ge}
 use Rattle.species_ast.specs.declared.tree.Unit.{Unit as Program}
 use Rattle.species_ast.specs.Scope.Forms.{Form, form_of, is_constant, iterators_in}
-use Rattle.species_ast.specs.Scope.Hulls.{Range, has_empty, bound_form, form_or_zero, last_form, fixed_range, no_range, wide_range, range_of}
+use Rattle.species_ast.specs.Scope.Hulls.{has_empty, bound_form, form_or_zero, last_form, fixed_range, no_range, wide_range, range_of}
 use Rattle.species_ast.specs.Scope.Limits.{is_too_far}
 use Rattle.species_ast.specs.Scope.Loops.{no_loops, outermost_at, outermost_in, outermost_loops}
 use Rattle.species_ast.specs.Scope.WellMade.{Around, Made, made, made_at, made_loop, list_holds, head_holds, is_made, is_made_bound, outermost, IsWellMade}
 use Rattle.species_ast.proofs.Folds.{fold_stmt-If, fold_stmt-For, fold_stmt-Block, fold_loop-out}
 use Rattle.species_ast.proofs.Induction.{Each, each_all, stmt_ind}
 use Rattle.species_ast.proofs.Paras.{para_stmt-Assign, para_stmt-AddTo, para_stmt-Declare, para_stmt-SetLocal}
-use Rattle.species_merge.specs.Bounds.{Ends, range_ends, ends_by, ends_of}
+use Rattle.species_merge.specs.Bounds.{range_ends, ends_by, ends_of}
 use Rattle.species_occurrences.proofs.PositionLaws.{each_append}
-use Rattle.species_ranges.proofs.KeepLaws.{KeepsHead, keeps_head, unit_outermost}
+use Rattle.species_ranges.proofs.KeepLaws.{keeps_head, unit_outermost}
 use Rattle.species_ranges.proofs.OutermostLaws.{outermost-If, outermost-For, outermost-Block}
 use Rattle.species_ranges.proofs.SmallLaws.{IsSmallRange, small_range}
 use Rattle.species_truth.proofs.ConstantForms.{IsFixedForm, form_fixed}

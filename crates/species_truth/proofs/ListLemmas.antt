@@ -1,5 +1,5 @@
 -- Items of lists.
-use Rattle.std.proofs.Common.{◌≡◌, sym, subst, arith, ℕ, zero, suc, ◌<◌, List, [], ◌∷◌, length, All}
+use Rattle.std.proofs.Common.{sym, subst, arith, ℕ, zero, suc, ◌<◌, List, [], ◌∷◌, length, All}
 use Rattle.std.specs.Prelude.{slice_index_or}
 use Rattle.std.specs.List.{Any, Contains}
 use Rattle.species_ast.proofs.Induction.{Each}

@@ -1,7 +1,7 @@
 -- The names of the unit of a program that is read: those of arrays and iterators are names of the language, and no two arrays have
 -- one name. Each array has a dimension.
-use Rattle.std.proofs.Common.{◌≡◌, ◌≢◌, ◌∙◌, ap, sym, refl, subst, arith, ℕ, zero, suc, ◌<◌, Bool, true, false, ◌&&◌, not, if◌then◌else◌, List, [], ◌∷◌, ◌++◌, map, length, Option, Some, None}
-use Rattle.std.specs.Prelude.{is_some, bytes_eq, slice_index_or, Ok}
+use Rattle.std.proofs.Common.{◌≡◌, ◌≢◌, ◌∙◌, ap, sym, refl, subst, arith, ℕ, zero, suc, Bool, true, false, ◌&&◌, not, if◌then◌else◌, List, [], ◌∷◌, ◌++◌, map, length, Option, Some, None}
+use Rattle.std.specs.Prelude.{is_some, bytes_eq, Ok}
 use Rattle.std.specs.List.{list_all, flat_map, filter}
 use Rattle.std.proofs.lemmas.Bool.{and_parts}
 use Rattle.std.proofs.lemmas.Slice.Eq.{bytes_eq-Decides}
@@ -19,7 +19,7 @@ use Rattle.species_ast.specs.Scope.Conditions.{IsLawful, is_unknown, is_duplicat
 use Rattle.species_ast.specs.Scope.Loops.{outermost_at, outermost_in, outermost_loops}
 use Rattle.species_ast.specs.Scope.Meanings.{Meaning, Scope, scope_with, meaning_in, Declared, Occurrence, occurrence}
 use Rattle.species_ast.specs.Scope.Expressions.{names_of}
-use Rattle.species_ast.specs.Scope.Programs.{ArrayParts, SizeParts, arrays_of, globals_from, size_in, first_scope, program_of}
+use Rattle.species_ast.specs.Scope.Programs.{ArrayParts, SizeParts, arrays_of, globals_from, first_scope, program_of}
 use Rattle.species_ast.specs.Scope.Refusals.{Refusal, Finding, first_in, or_later, refused_at, places_where}
 use Rattle.species_ast.proofs.FirstRefusal.{reports_the_first}
 use Rattle.species_ast.proofs.Folds.{fold_stmt-If, fold_stmt-For, fold_stmt-Block, fold_loop, folded_layer}
@@ -30,7 +30,7 @@ use Rattle.species_notation.specs.Written.{name_at}
 use Rattle.species_occurrences.proofs.PositionLaws.{each_append}
 use Rattle.species_ranges.proofs.OutermostLaws.{outermost-If, outermost-For, outermost-Block}
 use Rattle.species_readback.specs.Meant.{has_sizes}
-use Rattle.species_readback.specs.Spelt.{line_spelt, mark_spelt, is_spelt, is_int_step, is_int_number, array_spelt, stmt_spelt, loop_spelt, spelt, IsSpelt}
+use Rattle.species_readback.specs.Spelt.{line_spelt, mark_spelt, is_spelt, is_int_step, is_int_number, array_spelt, stmt_spelt, loop_spelt, spelt}
 use Rattle.species_readback.proofs.LawfulLaws.{lawful_meets}
 use Rattle.species_references.proofs.TurnLaws.{each_to_all}
 use Rattle.species_truth.proofs.ListLemmas.{each_at}

@@ -1,7 +1,7 @@
 -- Plain references read or write: each `+=` is a read and a write, and no add.
-use Rattle.std.proofs.Common.{◌≡◌, refl, ap, sym, ◌∙◌, subst, arith, ℕ, zero, suc, ◌+◌, ◌-◌, Bool, true, false, if◌then◌else◌, List, [], ◌∷◌, ◌++◌, map, length, Option, Some, None}
+use Rattle.std.proofs.Common.{◌≡◌, sym, ◌∙◌, subst, ℕ, zero, suc, ◌+◌, ◌-◌, Bool, true, false, if◌then◌else◌, List, [], ◌∷◌, ◌++◌, map, length, Option, Some, None}
 use Rattle.species_ast.specs.declared.tree.Expr.{Expr}
-use Rattle.species_ast.specs.declared.tree.Loop.{Loop, roll-Loop, out-Loop}
+use Rattle.species_ast.specs.declared.tree.Loop.{Loop, roll-Loop}
 use Rattle.species_ast.specs.declared.tree.Stmt.{Stmt}
 use Rattle.species_ast.specs.declared.tree.Stmt.TheVariants as stmt
 use Rattle.species_ast.specs.Accesses.{Direction, Reads, Writes, Adds}

@@ -1,10 +1,10 @@
 -- The arc that a reference of an outermost loop has alone can be read back from its line: its numbers are small, its forms name no
 -- iterator but that of the loop.
-use Rattle.std.proofs.Common.{◌≡◌, ◌≢◌, refl, ap, sym, ◌∙◌, subst, arith, ℕ, zero, suc, ◌+◌, ◌-◌, ◌*◌, ◌/◌, ◌<◌, ◌≤◌, ◌^◌, Bool, true, false, ◌&&◌, not, nat_eq, nat_lt, if◌then◌else◌, List, [], ◌∷◌, map, length, drop, ℤ, pos, ◌+ℤ◌, ◌-ℤ◌, ◌≤ℤ◌, Option, Some, None, All}
-use Rattle.std.specs.Prelude.{slice_get, slice_index_or, unwrap_or, option_map}
+use Rattle.std.proofs.Common.{◌≡◌, ◌≢◌, refl, ap, sym, ◌∙◌, subst, arith, ℕ, zero, suc, ◌+◌, ◌-◌, ◌*◌, ◌/◌, ◌<◌, ◌≤◌, ◌^◌, Bool, true, false, not, nat_eq, nat_lt, if◌then◌else◌, List, [], ◌∷◌, map, length, drop, ℤ, pos, ◌+ℤ◌, ◌-ℤ◌, ◌≤ℤ◌, All}
+use Rattle.std.specs.Prelude.{slice_get, unwrap_or, option_map}
 use Rattle.std.specs.Int.{◌∣◌}
 use Rattle.std.specs.Int.RustNames.{unsigned_abs}
-use Rattle.std.specs.List.{list_all, filter, Any, Contains}
+use Rattle.std.specs.List.{list_all, filter}
 use Rattle.std.specs.Ordering.{int_eq}
 use Rattle.std.proofs.lemmas.Bool.{and_parts, eq-eqb}
 use Rattle.std.proofs.lemmas.Bool.Decides.{nat_tests}
@@ -18,7 +18,6 @@ use Rattle.species_affine.specs.Limited.{IsWithin}
 use Rattle.species_affine.specs.Subscript.{IsSameForm, IsSubscript, HasFormNumbers}
 use Rattle.species_affine.specs.declared.subscript.Subscript.{Subscript}
 use Rattle.species_affine.specs.declared.subscript.Subscript.TheVariants.{Affine, Other}
-use Rattle.species_arcs.specs.Pairwise.{Pairwise}
 use Rattle.species_arcs.specs.declared.places.Arc.{Arc}
 use Rattle.species_arcs.specs.declared.places.ArcDim.{ArcDim}
 use Rattle.species_arcs.specs.declared.spans.Span.{Span}
@@ -29,22 +28,20 @@ use Rattle.species_ast.specs.declared.tree.Unit.{Unit as Program}
 use Rattle.species_ast.specs.Evaluation.{sizes_of}
 use Rattle.species_ast.specs.Run.{source_context}
 use Rattle.species_ast.specs.Scope.Forms as text
-use Rattle.species_ast.specs.Scope.Hulls.{Range, range_of, has_empty}
-use Rattle.species_ast.specs.Scope.Loops.{outermost_loops}
+use Rattle.species_ast.specs.Scope.Hulls.{range_of}
 use Rattle.species_ast.specs.Scope.References as references
-use Rattle.species_ast.specs.Scope.WellMade.{IsWellMade}
 use Rattle.species_ast.proofs.Induction.{Each}
 use Rattle.species_linear.specs.declared.forms.Form.{Form}
 use Rattle.species_linear.specs.declared.forms.Term.{Term}
-use Rattle.species_linear.specs.Rising.{IsRisingFrom, IsRising}
-use Rattle.species_linear.specs.Value.{coefficient_at, NamesOnly}
-use Rattle.species_merge.specs.Arcs.{added_in, IsDimOf, AreDimsFrom, IsArcOf, AreArcsOf}
+use Rattle.species_linear.specs.Rising.{IsRising}
+use Rattle.species_linear.specs.Value.{coefficient_at}
+use Rattle.species_merge.specs.Arcs.{added_in, IsDimOf, AreDimsFrom, AreArcsOf}
 use Rattle.species_merge.specs.Bands.{bound_at, moves_of, IsLeastAmong}
-use Rattle.species_merge.specs.Bounds.{Ends, range_ends, ends_of, IsBoundOf}
+use Rattle.species_merge.specs.Bounds.{IsBoundOf}
 use Rattle.species_merge.specs.Classes.{terms_of, terms_below, terms_from, box_at}
-use Rattle.species_merge.specs.Hulls.{IsHullOf, IsGcdOf, own_stride, gaps_of}
+use Rattle.species_merge.specs.Hulls.{IsGcdOf, own_stride, gaps_of}
 use Rattle.species_merge.specs.Law.{AreSettled}
-use Rattle.species_merge.specs.Sizes.{IsSmallBox, IsMergeable}
+use Rattle.species_merge.specs.Sizes.{IsSmallBox}
 use Rattle.species_merge.specs.declared.bands.BandBound.{BandBound}
 use Rattle.species_notation.specs.Law.{IsReadable, IsReadableDim, IsReadableArc}
 use Rattle.species_notation.specs.TableLines.{HasReadableSizes}

@@ -5,7 +5,7 @@ use Rattle.species_ast.specs.declared.tree.Stmt.{fold-roll-Stmt}
 use Rattle.species_ast.specs.declared.tree.Stmt.TheOpen.{Stmt-F}
 use Rattle.species_ast.specs.declared.tree.Stmt.TheVariants as stmt
 use Rattle.species_ast.specs.Strip.{strip_step, strip_layer, strip_loop}
-use Rattle.species_ast.specs.Scope.References.{Where, Referring, no_adds, references_at, references_inside, stmt_references, loop_references, references_of}
+use Rattle.species_ast.specs.Scope.References.{Referring, no_adds, references_at, references_inside, stmt_references, loop_references, references_of}
 use Rattle.species_ast.proofs.Folds.{fold_stmt-For, fold_loop-out}
 use Rattle.species_ast.proofs.StripKeeps.{strip-references}
 use Rattle.species_merge.specs.Bounds.{IsBoundOf}

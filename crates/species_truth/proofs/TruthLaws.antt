@@ -1,31 +1,27 @@
 -- The table of a unit that is read is true of each run.
-use Rattle.std.proofs.Common.{◌≡◌, ◌≢◌, refl, ap, sym, ◌∙◌, subst, arith, ℕ, zero, suc, ◌+◌, ◌<◌, ◌≤◌, ◌^◌, Bool, true, false, not, nat_lt, List, [], ◌∷◌, ◌++◌, map, length, drop, append_assoc, ℤ, ◌≤ℤ◌, Option, Some, None, All, inl, inr}
-use Rattle.std.specs.Prelude.{codes, slice_get, slice_index_or, IsTrue, Ok}
+use Rattle.std.proofs.Common.{◌≡◌, ◌≢◌, refl, ap, sym, ◌∙◌, subst, arith, ℕ, zero, suc, ◌+◌, ◌<◌, ◌≤◌, ◌^◌, Bool, true, false, not, nat_lt, List, [], ◌∷◌, ◌++◌, map, length, ℤ, ◌≤ℤ◌, Some, inl, inr}
+use Rattle.std.specs.Prelude.{codes, slice_get, slice_index_or}
 use Rattle.std.specs.List.{Any, Contains, flat_map, list_all}
 use Rattle.std.proofs.lemmas.Bool.{and_parts}
 use Rattle.std.proofs.lemmas.Bool.Decides.{nat_tests}
 use Rattle.species_arcs.specs.Pairwise.{Pairwise}
-use Rattle.species_arcs.specs.Sets.{IsInDim, IsInSet, IsInDimDomain, IsInDomain}
+use Rattle.species_arcs.specs.Sets.{IsInSet, IsInDimDomain, IsInDomain}
 use Rattle.species_arcs.specs.declared.places.Arc.{Arc}
 use Rattle.species_arcs.specs.declared.places.ArcDim.{ArcDim}
 use Rattle.species_arcs.specs.declared.places.Dir.{Dir}
 use Rattle.species_arcs.specs.declared.places.Dir.TheVariants as dir
 use Rattle.species_arcs.proofs.PairwiseLaws.{pairwise_length}
-use Rattle.species_ast.specs.declared.raw.RawUnit.{RawUnit}
 use Rattle.species_ast.specs.declared.tree.Loop.{Loop, out-Loop}
 use Rattle.species_ast.specs.declared.tree.Stmt.TheVariants as stmt
 use Rattle.species_ast.specs.declared.tree.Unit.{Unit as Program}
-use Rattle.species_ast.specs.Accesses.{Joins, Access, IsDefined, run, accesses, Direction, Reads, Writes, Adds}
+use Rattle.species_ast.specs.Accesses.{Joins, Access}
 use Rattle.species_ast.specs.Evaluation.{sizes_of}
 use Rattle.species_ast.specs.Names.{is_name}
-use Rattle.species_ast.specs.Reading.{IsAccepted}
 use Rattle.species_ast.specs.Run.{source_context}
 use Rattle.species_ast.specs.Strip.{strip_loop, source_of}
-use Rattle.species_ast.specs.Scope.Conditions.{resolved}
-use Rattle.species_ast.specs.Scope.Hulls.{has_empty}
 use Rattle.species_ast.specs.Scope.Limits.{most_references_made}
 use Rattle.species_ast.specs.Scope.Loops.{outermost_loops}
-use Rattle.species_ast.specs.Scope.References.{Reference, no_adds, references_of, reference_count, larger_than}
+use Rattle.species_ast.specs.Scope.References.{Reference, no_adds, references_of, reference_count}
 use Rattle.species_ast.specs.Scope.WellMade.{IsWellMade}
 use Rattle.species_ast.proofs.Induction.{Each}
 use Rattle.species_ast.proofs.StripKeeps.{strip-IsWellMade}
@@ -33,33 +29,32 @@ use Rattle.species_ast.proofs.StripLaws.{strip_of-IsUnmarked}
 use Rattle.species_cover.specs.Places.{IsInGivenDim}
 use Rattle.species_linear.specs.Point.{Point, point_of}
 use Rattle.species_linear.specs.Value.{form_at}
-use Rattle.species_lines.specs.Lines.{place_of, IsIn, IsTouch, Standing, loops_of, nest_references, IsInnermost, AreNestArcs, HoldIn, LinesHold, AdditionsAreMarked}
+use Rattle.species_lines.specs.Lines.{place_of, IsIn, IsTouch, Standing, IsInnermost, AreNestArcs, HoldIn, LinesHold, AdditionsAreMarked}
 use Rattle.species_merge.specs.Arcs.{AreArcsOf}
 use Rattle.species_merge.specs.Bounds.{IsBoundOf}
 use Rattle.species_merge.specs.Law.{AreSettled, ReferencesAreSettled}
 use Rattle.species_merge.specs.declared.bands.BandBound.{BandBound}
-use Rattle.species_nests.specs.Arrivals.{Running, ComesTo, turn_of}
-use Rattle.species_notation.specs.Law.{AreNames, dim_as_given}
-use Rattle.species_notation.specs.TableLines.{TableLine, table_line_of, table_line_for, TableReadsBack}
+use Rattle.species_nests.specs.Arrivals.{Running}
+use Rattle.species_notation.specs.Law.{dim_as_given}
+use Rattle.species_notation.specs.TableLines.{table_line_of, table_line_for, TableReadsBack}
 use Rattle.species_notation.specs.Written.{table_line_text}
 use Rattle.species_occurrences.specs.Made.{IsMadeBy, IsMadeAmong}
-use Rattle.species_occurrences.specs.Regular.{is_regular}
 use Rattle.species_occurrences.specs.Surely.{IsOneOf}
-use Rattle.species_occurrences.specs.Turns.{Turn, loop_turns}
+use Rattle.species_occurrences.specs.Turns.{Turn}
 use Rattle.species_references.specs.Law.{HasTurns}
-use Rattle.species_references.specs.References.{direction_of, adds_of, IsReference, AreNumberedFrom}
+use Rattle.species_references.specs.References.{direction_of, IsReference, AreNumberedFrom}
 use Rattle.species_references.specs.declared.nest.Reference.{Reference as Held}
-use Rattle.species_references.proofs.TurnLaws.{references_have_turns, each_to_all}
+use Rattle.species_references.proofs.TurnLaws.{references_have_turns}
 use Rattle.species_ranges.proofs.BoundedLaws.{IsBounded, outermost_bounded}
-use Rattle.species_report.specs.Table.{names_in, AreOfNest, IsLineOf, IsOfLoop, IsTable, joined, place_line}
-use Rattle.species_truth.specs.Truth.{IsInSaidSet, IsBetween, IsInSaidDomain, IsTurn, does, accessed, Ends, references_in, IsOf, SaysTrue, IsTrueLine, IsTrueOfLoop, IsTrueTable, TablesAreTrue}
+use Rattle.species_report.specs.Table.{names_in, AreOfNest, IsLineOf, IsOfLoop, joined, place_line}
+use Rattle.species_truth.specs.Truth.{IsInSaidSet, IsBetween, IsInSaidDomain, IsTurn, accessed, Ends, references_in, IsOf, SaysTrue, IsTrueLine, IsTrueOfLoop, TablesAreTrue}
 use Rattle.species_notation.proofs.FeedLaws.{IsOneLine, line_is_one}
 use Rattle.species_truth.proofs.FixedForms.{fixed_value}
 use Rattle.species_truth.proofs.HeadLaws.{HasConstantEnds, outermost_constant}
 use Rattle.species_truth.proofs.ListLemmas.{all_one, any_one, each_contains, each_of_all}
 use Rattle.species_truth.proofs.NameLaws.{HasName, IsNamed, read_named, where_none}
 use Rattle.species_truth.proofs.PlainLaws.{IsPlain, IsPlainReference, references_plain}
-use Rattle.species_truth.proofs.ReadableLaws.{HasFixedEnds, IsGoodArc, arc_readable}
+use Rattle.species_truth.proofs.ReadableLaws.{HasFixedEnds, arc_readable}
 use Rattle.species_truth.proofs.SourceLaws.{source_references, source_bound}
 
 -- ---- lists

@@ -1,6 +1,6 @@
 -- The boxes of a reference are whole: the stride divides the way from the least number to the greatest.
-use Rattle.std.proofs.Common.{◌≡◌, refl, ap, sym, ◌∙◌, subst, arith, ℕ, zero, suc, ◌*◌, ◌<◌, ◌≤◌, ◌^◌, Bool, true, false, ◌&&◌, ◌||◌, nat_eq, if◌then◌else◌, List, [], ◌∷◌, drop, length, ℤ, pos, negsuc, ◌+ℤ◌, ◌-ℤ◌, ◌*ℤ◌, ◌≤ℤ◌, Option, Some, None, All}
-use Rattle.std.specs.Prelude.{int_lt, IsTrue, slice_index_or}
+use Rattle.std.proofs.Common.{◌≡◌, refl, ap, sym, subst, arith, ℕ, zero, suc, ◌*◌, ◌≤◌, Bool, true, false, ◌||◌, nat_eq, if◌then◌else◌, List, [], ◌∷◌, drop, ℤ, pos, negsuc, ◌+ℤ◌, ◌-ℤ◌, ◌*ℤ◌, ◌≤ℤ◌, Option, Some, None, All}
+use Rattle.std.specs.Prelude.{IsTrue}
 use Rattle.std.specs.Int.{◌∣◌}
 use Rattle.std.specs.Int.RustNames.{unsigned_abs}
 use Rattle.std.specs.Ordering.{int_eq}
@@ -13,10 +13,10 @@ use Rattle.species_arcs.specs.declared.spans.Span.{Span}
 use Rattle.species_ast.specs.Scope.Forms as text
 use Rattle.species_ast.specs.Scope.Hulls.{Range, is_empty, has_empty, least_product, greatest_product, least_sum, greatest_sum}
 use Rattle.species_ast.proofs.Induction.{Each}
-use Rattle.species_merge.specs.Classes.{no_box, box_at}
+use Rattle.species_merge.specs.Classes.{box_at}
 use Rattle.species_merge.specs.Law.{IsFullyTaken}
 use Rattle.species_merge.specs.Sizes.{IsSmallBox}
-use Rattle.species_references.specs.Boxes.{inner_part, has_constant_bounds, unit_of, gap_of, gaps_of, IsStrideOf, IsBoxOf, whole, IsBoxIn, AreBoxes}
+use Rattle.species_references.specs.Boxes.{has_constant_bounds, unit_of, gap_of, gaps_of, IsStrideOf, whole, IsBoxIn, AreBoxes}
 
 -- ---- ranges
 

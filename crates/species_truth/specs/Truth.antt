@@ -1,7 +1,7 @@
 -- What the table of arcs says is true of each run of the program's source. Each line is read from its bytes, and what it says is
 -- asked of the accesses that its reference makes, turn by turn: the body of a loop is executed once a turn (C17 6.8.5p4, 6.8.5.3), and
 -- a reference is a subscripted element (C17 6.5.2.1) of a statement in it.
-use Rattle.std.specs.Prelude.{◌≡◌, ℕ, ◌<◌, true, false, ℤ, ◌≤ℤ◌, List, [], ◌∷◌, ◌++◌, codes, length, slice_get, slice_index_or, All, Some, Ok, IsTrue}
+use Rattle.std.specs.Prelude.{◌≡◌, ℕ, ◌<◌, true, false, ℤ, ◌≤ℤ◌, List, [], ◌++◌, codes, length, slice_get, slice_index_or, All, Some, Ok, IsTrue}
 use Rattle.std.specs.List.{Any, Contains, flat_map, list_all}
 use Rattle.species_arcs.specs.Pairwise.{Pairwise}
 use Rattle.species_ast.specs.declared.raw.RawUnit.{RawUnit}

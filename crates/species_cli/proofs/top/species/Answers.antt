@@ -1,4 +1,4 @@
-use Rattle.std.proofs.Common.{rules, arith, ap, refl, inl, inr, ◌≡◌, ◌≢◌}
+use Rattle.std.proofs.Common.{rules, arith, ap, refl, inl, ◌≢◌}
 use Rattle.species_cli.specs.Answer.{IsArcs}
 use Rattle.species_cli.proofs.TopLemmas.{err, gave_usage, cut_usage, came, gave_said, cut_said, is_read_fault, read_to_end, came_as, gave_table, cut_table, unlawful_status, program_status, unread_status}
 use Rattle.species_cli.proofs.top.species.Goals as goal
