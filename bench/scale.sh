@@ -1,6 +1,8 @@
 #!/usr/bin/env bash
-# How time and memory of `species arcs` grow with its input, beside `cat` and `gcc -fsyntax-only` on
-# the same bytes. Prints one line for each input: its size, seconds of processor and peak memory of each, ratios.
+# How time and memory of `species arcs` grow with its input, beside `cat`, `gcc -fsyntax-only` and
+# `clang -fsyntax-only` on the same bytes. Prints one line for each input: its size, the status of the
+# program, seconds of processor and peak memory of each, and the ratios of the seconds. A compiler that
+# is missing is left out. Stops where the program has another status than the text asks for.
 # Usage: bench/scale.sh [FOLDER to keep the inputs in, else they are removed]
 set -eu
 top="$(CDPATH='' cd -- "$(dirname -- "$(readlink -f -- "${BASH_SOURCE[0]}")")/.." && pwd)"
@@ -13,55 +15,48 @@ else
     folder="$(mktemp -d)"
     trap 'rm -rf "$folder"' EXIT
 fi
+for compiler in gcc clang; do
+    command -v "$compiler" > /dev/null || echo "$compiler is missing, and its columns have -"
+done
 
-# The largest program that is accepted: many arrays with long names, 512 elements.
-python3 - "$folder" <<'PY'
-import sys
-folder = sys.argv[1]
-limit = 4194304
+python3 "$top/bench/scale.py" "$folder"
 
-def program(size):
-    """A program of nearly this many bytes: arrays fill it, 512 elements stand in its one loop."""
-    loop = "void kernel(void) {\n    for (int i = 1073741823; i < 1073741824; i++) {\n"
-    body = ""
-    for k in range(8):
-        body += "        a0[i - 1073741823] = " + " + ".join(["1073741824 * a%d[i - 1073741823]" % j for j in range(63)]) + ";\n"
-    end = "    }\n}\n"
-    front, used, number = [], len(loop) + len(body) + len(end), 0
-    while True:
-        line = "int a%d[16777216];\n" % number
-        if used + len(line) > size and number >= 63:
-            break
-        front.append(line)
-        used += len(line)
-        number += 1
-    return "".join(front) + loop + body + end
-
-for mib in (1, 2, 4):
-    text = program(mib * 1048576)
-    assert len(text) <= limit
-    open(f"{folder}/accepted-{mib}.c", "w").write(text)
-    # refused at its end: the last bracket is a blank
-    open(f"{folder}/refused-{mib}.c", "w").write(text[:-2] + " \n")
-PY
-
-measure() { # COMMAND.. FILE: seconds of processor and KiB
+measure() { # FILE COMMAND..: status, seconds of processor and KiB
+    if ! command -v "$2" > /dev/null; then
+        echo '- - -'
+        return
+    fi
     python3 - "$@" <<'PY'
 import resource, subprocess, sys
-subprocess.run(sys.argv[1:-1], stdin=open(sys.argv[-1]), stdout=subprocess.DEVNULL, stderr=subprocess.DEVNULL)
+run = subprocess.run(sys.argv[2:], stdin=open(sys.argv[1]), stdout=subprocess.DEVNULL, stderr=subprocess.DEVNULL)
 used = resource.getrusage(resource.RUSAGE_CHILDREN)
-print("%.3f %d" % (used.ru_utime + used.ru_stime, used.ru_maxrss))
+print("%d %.3f %d" % (run.returncode, used.ru_utime + used.ru_stime, used.ru_maxrss))
 PY
 }
 
-printf '%-14s %9s | %8s %8s | %8s %8s | %8s %8s | %s\n' input bytes species KiB cat KiB gcc KiB 'species/gcc'
-for kind in accepted refused; do
-    for mib in 1 2 4; do
-        file="$folder/$kind-$mib.c"
-        read -r s sm < <(measure "$program" arcs "$file")
-        read -r c cm < <(measure cat "$file")
-        read -r g gm < <(measure gcc -fsyntax-only -x c - "$file")
-        printf '%-14s %9d | %8s %8s | %8s %8s | %8s %8s | %s\n' "$kind-$mib" "$(stat -c %s "$file")" \
-            "$s" "$sm" "$c" "$cm" "$g" "$gm" "$(python3 -c "print('%.2f' % ($s / max($g, 0.001)))")"
-    done
+ratio() { # SECONDS SECONDS
+    case $2 in
+    -) echo - ;;
+    *) awk -v a="$1" -v b="$2" 'BEGIN { printf "%.2f\n", a / (b < 0.001 ? 0.001 : b) }' ;;
+    esac
+}
+
+printf '%-14s %9s %6s | %8s %8s | %8s %8s | %8s %8s | %8s %8s | %6s %6s\n' \
+    input bytes status species KiB cat KiB gcc KiB clang KiB /gcc /clang
+for input in accepted-1 accepted-2 accepted-4 refused-1 refused-2 refused-4 nests-1 nests-2 nests-4 references-512; do
+    file="$folder/$input.c"
+    case $input in
+    refused-*) wanted=1 ;;
+    *) wanted=0 ;;
+    esac
+    read -r status s sm < <(measure "$file" "$program" arcs)
+    if [ "$status" != "$wanted" ]; then
+        echo "$input: the program has status $status, and $wanted was to come" >&2
+        exit 1
+    fi
+    read -r _ c cm < <(measure "$file" cat)
+    read -r _ g gm < <(measure "$file" gcc -fsyntax-only -x c -)
+    read -r _ l lm < <(measure "$file" clang -fsyntax-only -x c -)
+    printf '%-14s %9d %6d | %8s %8s | %8s %8s | %8s %8s | %8s %8s | %6s %6s\n' \
+        "$input" "$(stat -c %s "$file")" "$status" "$s" "$sm" "$c" "$cm" "$g" "$gm" "$l" "$lm" "$(ratio "$s" "$g")" "$(ratio "$s" "$l")"
 done
