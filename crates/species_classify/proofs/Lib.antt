@@ -1,0 +1,4 @@
+mod DepthLemmas
+mod FrontLemmas
+mod AskedLemmas
+mod HoldLemmas
