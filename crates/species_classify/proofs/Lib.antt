@@ -2,3 +2,4 @@ mod DepthLemmas
 mod FrontLemmas
 mod AskedLemmas
 mod HoldLemmas
+mod BoundLemmas

@@ -1,6 +1,7 @@
 //! The plan of a nest.
 
 ghost use Rattle.std.specs.Prelude.{◌≡◌, ◌<◌, ◌≤◌, ◌-◌, [], ◌∷◌, List, ℕ, true, length, IfOk, OnOk, All};
+ghost use Rattle.species_arcs.specs.Sizes.{HasSmallSpan};
 ghost use Rattle.species_ast.specs.Scope.Nests.{front_of};
 ghost use Rattle.species_ast.specs.Scope.WellMade.{IsWellMade};
 ghost use Rattle.species_linear.specs.Box.{HasSmallPath};
@@ -63,8 +64,9 @@ fn add_bounds_in_body(
     ensures small { OnOk result (All IsSmallBound found.old.items → All IsSmallBound found.new.items) }
 {
     match body {
+        [] => Ok(()),
         [only] => add_bounds_in(alloc, only, depth, path, found),
-        _ => Ok(()),
+        [_, _, ..] => Ok(()),
     }
 }
 
@@ -101,7 +103,10 @@ fn band_bounds(
     requires some { 0 < depth }
     requires short { IsShort path.now }
     requires ends { HasSmallPath path.now }
-    ensures bounds { IfOk result (λ bands. fits_in_loop head.now (ranges_seen path.now) ≡ true → AreBandBounds (depth - 1) head.now bands.items) }
+    requires fits { fits_in_loop head.now (ranges_seen path.now) ≡ true }
+    requires deep { depth ≤ length (front_of head.now) }
+    ensures bounds { IfOk result (λ bands. AreBandBounds (depth - 1) head.now bands.items) }
+    ensures count { IfOk result (λ bands. length bands.items ≡ depth) }
     ensures small { IfOk result (λ bands. All IsSmallBound bands.items) }
 {
     let mut around = path_of(alloc, path)?;
@@ -124,7 +129,8 @@ fn band_arcs(
     requires stands { StandsIn unit.now head.now (ranges_seen path.now) }
     requires ranges { ranges_seen ranges.now ≡ ranges_in_loop head.now (ranges_seen path.now) }
     requires deep { depth ≤ length (front_of head.now) }
-    ensures { IfOk result (λ arcs. AreBandArcs depth unit.now head.now (ranges_seen path.now) gathered.now arcs) }
+    ensures arcs { IfOk result (λ arcs. AreBandArcs depth unit.now head.now (ranges_seen path.now) gathered.now arcs) }
+    ensures spans { IfOk result (λ arcs. All (λ arc. All HasSmallSpan arc.dims) arcs) }
 {
     if depth == 0 {
         return Ok(Items::new(alloc));
@@ -150,7 +156,8 @@ pub fn plan_nest(
 ) -> Result<Nest, OutOfMemory>
     requires made { IsWellMade unit.now }
     requires stands { StandsIn unit.now head.now (ranges_seen path.now) }
-    ensures { IfOk result (IsPlan unit.now head.now (ranges_seen path.now)) }
+    ensures plan { IfOk result (IsPlan unit.now head.now (ranges_seen path.now)) }
+    ensures spans { IfOk result (λ nest. All (λ arc. All HasSmallSpan arc.dims) nest.arcs) }
 {
     let ranges = nest_ranges(alloc, head, path)?;
     let Decision {
