@@ -1,5 +1,10 @@
 mod DepthLemmas
 mod FrontLemmas
 mod AskedLemmas
-mod HoldLemmas
+mod FormLemmas
+mod SoundLemmas
+mod StandLemmas
+mod BandLemmas
+mod PlaceLemmas
 mod BoundLemmas
+mod MergeLemmas
