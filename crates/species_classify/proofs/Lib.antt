@@ -1,4 +1,5 @@
 mod DepthLemmas
+mod LocalLemmas
 mod FrontLemmas
 mod AskedLemmas
 mod FormLemmas
