@@ -1,5 +1,5 @@
 -- The loops of a unit, one after another, each with the ranges of the loops around it.
-use Rattle.std.specs.Prelude.{◌≡◌, List, ◌∷◌, map}
+use Rattle.std.specs.Prelude.{◌≡◌, ℕ, List, ◌∷◌, map}
 use Rattle.species_arcs.specs.declared.plans.Nest.{Nest}
 use Rattle.species_ast.specs.declared.tree.Loop.{Loop, out-Loop}
 use Rattle.species_ast.specs.declared.tree.Stmt.{Stmt}
@@ -19,13 +19,13 @@ head_at l = record { loop = l.head; path = l.stands.around.path }
 abbrev pub heads_in : Stmt → Standing → List Head
 heads_in x s = map head_at (loops_in x s)
 
--- of statements, of which the first has number 0 there
-abbrev pub heads_in_list : List Stmt → Standing → List Head
-heads_in_list xs s = map head_at (list_loops (map loops_in xs) s 0)
+-- of statements, of which the first has number k inside the statement around it
+abbrev pub heads_in_list : List Stmt → Standing → ℕ → List Head
+heads_in_list xs s k = map head_at (list_loops (map loops_in xs) s k)
 
 -- in a loop, where that stands
 abbrev pub heads_inside : Loop → Standing → List Head
-heads_inside head s = heads_in_list (out-Loop head).body (standing_in (out-Loop head) s)
+heads_inside head s = heads_in_list (out-Loop head).body (standing_in (out-Loop head) s) 0
 
 -- all loops of a unit
 abbrev pub heads_of : Program → List Head

@@ -1,6 +1,6 @@
 //! The loops of a unit, one after another, and their plans.
 
-ghost use Rattle.std.specs.Prelude.{◌≡◌, ◌<◌, [], ◌∷◌, ◌++◌, true, false, drop, take, length, List, All, OnOk, IfOk, IfSome, MatchOption};
+ghost use Rattle.std.specs.Prelude.{◌≡◌, ◌<◌, [], ◌∷◌, ◌++◌, true, false, drop, take, length, ℕ, List, All, OnOk, IfOk, IfSome, MatchOption};
 ghost use Rattle.species_ast.specs.declared.tree.Loop.{out-Loop};
 ghost use Rattle.species_ast.specs.declared.tree.Stmt.TheVariants.{For};
 ghost use Rattle.species_ast.specs.Scope.Hulls as hulls;
@@ -124,7 +124,7 @@ fn add_list<'a>(
     path: &mut Path,
     found: &mut Vec<PlacedLoop<'a>>,
 ) -> Result<(), OutOfMemory>
-    ensures found { OnOk result (fits_in_list statements.now path.old ≡ true → (s : Standing) → s.around.path ≡ path.old → found.new.items ≡ found.old.items ++ heads_in_list statements.now s) }
+    ensures found { OnOk result (fits_in_list statements.now path.old ≡ true → (s : Standing) (k : ℕ) → s.around.path ≡ path.old → found.new.items ≡ found.old.items ++ heads_in_list statements.now s k) }
     ensures same { OnOk result (path.new ≡ path.old) }
 {
     for statement in statements {

@@ -3,7 +3,7 @@
 //! The loops are walked in the order of the text. A loop that is sequential is gone into, and the loops in it
 //! are planned in their turn; those in a parallel nest stay as they are.
 
-ghost use Rattle.std.specs.Prelude.{◌≡◌, ◌++◌, [], ◌∷◌, List, Some, IfOk, OnOk};
+ghost use Rattle.std.specs.Prelude.{◌≡◌, ◌++◌, [], ◌∷◌, ℕ, List, Some, IfOk, OnOk};
 ghost use Rattle.species_ast.specs.declared.tree.Loop.{out-Loop, roll-Loop};
 ghost use Rattle.species_ast.specs.declared.tree.Mark.TheVariants as mark;
 ghost use Rattle.species_ast.specs.declared.tree.Stmt.TheVariants.{For};
@@ -52,7 +52,7 @@ fn pass_stmt(statement: &Stmt, loops: &mut Loops<'_>)
 #[cycle(pass)]
 fn pass_list(statements: &[Stmt], loops: &mut Loops<'_>)
     ensures unit { loops.new.unit ≡ loops.old.unit }
-    ensures left { (s : Standing) (rest : List Head) → loops.old.left ≡ heads_in_list statements.now s ++ rest → loops.new.left ≡ rest }
+    ensures left { (s : Standing) (k : ℕ) (rest : List Head) → loops.old.left ≡ heads_in_list statements.now s k ++ rest → loops.new.left ≡ rest }
 {
     for statement in statements {
         pass_stmt(statement, loops);
@@ -138,8 +138,8 @@ fn annotate_list(
 ) -> Result<Items<Stmt>, OutOfMemory>
     ensures unit { OnOk result (loops.new.unit ≡ loops.old.unit) }
     ensures names { OnOk result (names.new ≡ names.old) }
-    ensures left { OnOk result ((s : Standing) (rest : List Head) → loops.old.left ≡ heads_in_list statements.now s ++ rest → loops.new.left ≡ rest) }
-    ensures becomes { IfOk result (λ new. (w : Around) (s : Standing) (rest : List Head) → s.around.path ≡ w.path → names.old ≡ names_in loops.old.unit w.iters → loops.old.left ≡ heads_in_list statements.now s ++ rest → BecomeAll loops.old.unit w statements.now new) }
+    ensures left { OnOk result ((s : Standing) (k : ℕ) (rest : List Head) → loops.old.left ≡ heads_in_list statements.now s k ++ rest → loops.new.left ≡ rest) }
+    ensures becomes { IfOk result (λ new. (w : Around) (s : Standing) (k : ℕ) (rest : List Head) → s.around.path ≡ w.path → names.old ≡ names_in loops.old.unit w.iters → loops.old.left ≡ heads_in_list statements.now s k ++ rest → BecomeAll loops.old.unit w statements.now new) }
 {
     let mut lined = Items::new(alloc);
     for statement in statements {
