@@ -18,7 +18,7 @@ use Rattle.species_merge.specs.Bounds.{IsBoundOf}
 use Rattle.species_nests.specs.Nests.{Placed, sole_at, sole, only, nest_in, nest_of}
 use Rattle.species_nests.proofs.NestLaws.{under, no_loops, sole-For, sole-Block}
 use Rattle.species_ranges.specs.Fitting.{fits_at, fits_within, fits_in, fits_in_list, fits_in_loop}
-use Rattle.species_classify.specs.Plans.{AddsBounds}
+use Rattle.species_classify.specs.Plans.{HasOneMore, AddsBounds}
 
 -- ---- where loops fit
 
@@ -103,6 +103,47 @@ sole_set x place n value is = ap sole is ∙ para_stmt-SetLocal sole_at no_loops
 
 pub sole_if : (x : Stmt) (place : ℕ) (test : Expr) (body otherwise : List Stmt) → x ≡ stmt.If place test body otherwise → sole x ≡ (λ here. None)
 sole_if x place test body otherwise is = ap sole is ∙ para_stmt-If sole_at no_loops place test body otherwise
+
+-- ---- a loop, and what is below it
+
+pub one_bound : (depth : ℕ) (head : Loop) (path : List Range) (at : List ℕ) (old new : List BandBound) → depth ≡ 1
+    → (passes_hull path (out-Loop head) ≡ false → HasOneMore head old new) → fits_in_loop head path ≡ true → AddsBounds old new (nest_of (depth - 1) head at).loops
+one_bound depth head path at old new one added h =
+    let more = added (fits_loop head path h).hull in
+    let none : 0 ≡ depth - 1 = omega (arith, one) in
+    subst (λ n. AddsBounds old new (nest_of n head at).loops) none
+    (add_more old new new more.0 (record { loop = head; at = at }) [] more.1 more.2 (add_none new [] refl))
+
+pub more_bounds : (below depth : ℕ) (head : Loop) (p : List Stmt) (path next : List Range) (at : List ℕ) (old mid new : List BandBound) → below ≡ depth - 1 → p ≡ (out-Loop head).body
+    → (passes_hull path (out-Loop head) ≡ false → HasOneMore head old mid)
+    → (passes_hull path (out-Loop head) ≡ false → length path < 16 → next ≡ path ++ range_of path (out-Loop head) ∷ [])
+    → (fits_in_list p next ≡ true → (here : List ℕ) → AddsBounds mid new (nest_in below p here).loops)
+    → fits_in_loop head path ≡ true → AddsBounds old new (nest_of (depth - 1) head at).loops
+more_bounds below depth head p path next at old mid new size b added entering f h =
+    let fits = fits_loop head path h in
+    let more = added fits.hull in
+    let next_is = entering fits.hull fits.short in
+    let rest : AddsBounds mid new (nest_in below (out-Loop head).body at).loops =
+    subst (λ xs. AddsBounds mid new (nest_in below xs at).loops) b (f ((λ i. fits_in_list (b i) (next_is i)) ∙ fits.body) at) in
+    subst (λ n. AddsBounds old new (nest_of n head at).loops) size (add_more old mid new more.0 (record { loop = head; at = at }) (nest_in below (out-Loop head).body at).loops more.1 more.2 rest)
+
+pub for_bounds : (depth : ℕ) (x : Stmt) (head : Loop) (path : List Range) (at : List ℕ) (old new : List BandBound) → 0 < depth → x ≡ stmt.For head
+    → (fits_in_loop head path ≡ true → (here : List ℕ) → AddsBounds old new (nest_of (depth - 1) head here).loops) → fits_in x path ≡ true → AddsBounds old new (nest_in depth (x ∷ []) at).loops
+for_bounds depth x head path at old new some is f h =
+    subst (AddsBounds old new) (sym (nest_for depth (depth - 1) x head at (omega (arith, some)) is)) (f (fits_for x head path is h) (at ++ 0 ∷ []))
+
+pub block_bounds : (depth : ℕ) (x : Stmt) (body p : List Stmt) (path : List Range) (at : List ℕ) (old new : List BandBound) → x ≡ stmt.Block body → p ≡ body
+    → (fits_in_list p path ≡ true → (here : List ℕ) → AddsBounds old new (nest_in depth p here).loops) → fits_in x path ≡ true → AddsBounds old new (nest_in depth (x ∷ []) at).loops
+block_bounds depth x body p path at old new is b f h =
+    subst (AddsBounds old new) (sym (nest_block depth x body at is))
+    (subst (λ xs. AddsBounds old new (nest_in depth xs (at ++ 0 ∷ [])).loops) b (f (ap (λ xs. fits_in_list xs path) b ∙ fits_block x body path is h) (at ++ 0 ∷ [])))
+
+pub other_bounds : (depth : ℕ) (x : Stmt) (at : List ℕ) (old : List BandBound) → sole x ≡ (λ here. None) → AddsBounds old old (nest_in depth (x ∷ []) at).loops
+other_bounds depth x at old none = add_none old (nest_in depth (x ∷ []) at).loops (nest_other depth x at none)
+
+pub only_bounds : (depth : ℕ) (xs : List Stmt) (x : Stmt) (path : List Range) (at : List ℕ) (old new : List BandBound) → xs ≡ x ∷ []
+    → (fits_in x path ≡ true → (here : List ℕ) → AddsBounds old new (nest_in depth (x ∷ []) here).loops) → fits_in_list xs path ≡ true → AddsBounds old new (nest_in depth xs at).loops
+only_bounds depth xs x path at old new is f h = subst (λ l. AddsBounds old new (nest_in depth l at).loops) (sym is) (f (fits_only xs x path is h) at)
 
 -- ---- as many loops as the front has
 

@@ -8,4 +8,3 @@ mod StandLemmas
 mod BandLemmas
 mod PlaceLemmas
 mod BoundLemmas
-mod MergeLemmas

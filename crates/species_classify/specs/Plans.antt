@@ -18,6 +18,10 @@ use Rattle.species_references.specs.References.{adds_of, IsReference}
 use Rattle.species_classify.specs.declared.decide.Decision.{Decision}
 use Rattle.species_classify.specs.Decisions.{IsDecision}
 
+-- the bound of a loop is added to a list
+abbrev pub HasOneMore : Loop → List BandBound → List BandBound → Type 0
+HasOneMore head old new = (b : BandBound) × (new ≡ old ++ b ∷ []) × IsBoundOf (out-Loop head) b
+
 -- the bounds of these loops are added to a list
 abbrev pub AddsBounds : List BandBound → List BandBound → List Placed → Type 0
 AddsBounds old new loops = (more : List BandBound) × (new ≡ old ++ more) × Pairwise (λ p b. IsBoundOf (out-Loop p.loop) b) loops more

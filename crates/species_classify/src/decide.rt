@@ -4,6 +4,7 @@ ghost use Rattle.std.specs.Prelude.{◌≡◌, ◌<◌, ◌≤◌, ℕ, length, 
 ghost use Rattle.std.specs.List.{Any};
 ghost use Rattle.species_ast.specs.Scope.Nests.{front_of};
 ghost use Rattle.species_ast.specs.Scope.WellMade.{IsWellMade};
+ghost use Rattle.species_gather.specs.Summed.{summed_arrays};
 ghost use Rattle.species_references.specs.Ranges.{ranges_seen, ranges_in_loop};
 ghost use Rattle.species_depend.specs.Carried.{AreAsked};
 ghost use Rattle.species_classify.specs.Decisions.{sequential, parallel, IsSharedDecisionOf, IsDecidedBy, IsDecision};
@@ -97,14 +98,28 @@ fn shared_decision(
 }
 
 /// The decision by the plain references of a nest, in so many outer loops, with a front of so many loops.
-fn decide_by(alloc: Global, refs: &Grouped, outer: u32, front: u32, gathered: Numbers) -> Decision
+/// The arrays that the nest only adds to are looked for where they may decide.
+fn decide_by(
+    alloc: Global,
+    unit: &Unit,
+    head: &Loop,
+    refs: &Grouped,
+    outer: u32,
+    front: u32,
+) -> Result<Decision, OutOfMemory>
     requires some { 0 < front }
     requires asked { (level : ℕ) → level < front → AreAsked refs.now outer level }
-    ensures { IsDecidedBy refs.now outer front gathered result }
+    ensures { IfOk result (IsDecidedBy refs.now outer front (summed_arrays unit.now head.now)) }
 {
     match band_of(refs, outer, front, &[]) {
-        Band::Free(depth) => Decision::parallel(depth, Mode::Plain, Numbers::new(alloc)),
-        Band::Carried(_, _) => shared_decision(alloc, refs, outer, front, gathered),
+        Band::Free(depth) => {
+            let none = Numbers::new(alloc);
+            Ok(Decision::parallel(depth, Mode::Plain, none))
+        }
+        Band::Carried(_, _) => {
+            let gathered = Numbers::from(sum_arrays(alloc, unit, head)?);
+            Ok(shared_decision(alloc, refs, outer, front, gathered))
+        }
     }
 }
 
@@ -129,7 +144,6 @@ pub(crate) fn decide(
     let outer = path.len() as u32;
     let plain = references(alloc, unit, head, path, ranges, 1, &[])?;
     let refs = group(alloc, plain)?;
-    let gathered = Numbers::from(sum_arrays(alloc, unit, head)?);
     let front = perfect_depth(head, outer);
-    Ok(decide_by(alloc, &refs, outer, front, gathered))
+    decide_by(alloc, unit, head, &refs, outer, front)
 }

@@ -1,7 +1,9 @@
 //! The plan of a nest.
 
-ghost use Rattle.std.specs.Prelude.{◌≡◌, ◌<◌, ◌≤◌, ◌-◌, [], ◌∷◌, List, ℕ, true, length, IfOk, OnOk, All};
+ghost use Rattle.std.specs.Prelude.{◌≡◌, ◌<◌, ◌≤◌, ◌-◌, [], ◌∷◌, ◌++◌, List, ℕ, true, false, length, IfOk, OnOk, All};
 ghost use Rattle.species_arcs.specs.Sizes.{HasSmallSpan};
+ghost use Rattle.species_ast.specs.declared.tree.Loop.{out-Loop};
+ghost use Rattle.species_ast.specs.Scope.Hulls as hulls;
 ghost use Rattle.species_ast.specs.Scope.Nests.{front_of};
 ghost use Rattle.species_ast.specs.Scope.WellMade.{IsWellMade};
 ghost use Rattle.species_linear.specs.Box.{HasSmallPath};
@@ -9,7 +11,7 @@ ghost use Rattle.species_linear.specs.Point.{IsShort};
 ghost use Rattle.species_merge.specs.Sizes.{IsSmallBound};
 ghost use Rattle.species_references.specs.Ranges.{ranges_seen, ranges_in_loop};
 ghost use Rattle.species_classify.specs.Places.{StandsIn};
-ghost use Rattle.species_classify.specs.Plans.{AddsBounds, AreBandBounds, AreBandArcs, IsPlan};
+ghost use Rattle.species_classify.specs.Plans.{HasOneMore, AddsBounds, AreBandBounds, AreBandArcs, IsPlan};
 ghost use Rattle.species_ranges.specs.Fitting.{fits_in, fits_in_list, fits_in_loop};
 ghost use Rattle.species_nests.specs.Nests.{nest_in, nest_of};
 
@@ -24,6 +26,29 @@ use species_references::references;
 use sqlite_items::Items;
 use std::alloc::Global;
 
+/// Adds the bounds of a loop, in loops with these ranges, and goes into it. Of one that passes the limit on
+/// hulls, which no lawful program has, nothing is added.
+fn enter(
+    alloc: Global,
+    head: &Loop,
+    path: &mut Path,
+    found: &mut Vec<BandBound>,
+) -> Result<(), OutOfMemory>
+    ensures added { OnOk result (hulls.passes_hull path.old (out-Loop head.now) ≡ false → HasOneMore head.now found.old.items found.new.items) }
+    ensures small { OnOk result (All IsSmallBound found.old.items → All IsSmallBound found.new.items) }
+    ensures open { OnOk result (hulls.passes_hull path.old (out-Loop head.now) ≡ false → length path.old < 16 → path.new ≡ path.old ++ hulls.range_of path.old (out-Loop head.now) ∷ []) }
+{
+    let header = Header::of(alloc, head)?;
+    if header.passes_hull(path.as_slice()) {
+        return Ok(());
+    }
+    let range = header.range(alloc, path.as_slice())?;
+    let bound = bound_of(alloc, head, range)?;
+    found.push(bound)?;
+    path.enter(range)?;
+    Ok(())
+}
+
 /// Adds the bounds of a loop, in loops with these ranges, and of the loops below it, to this depth in all.
 #[cycle(bounds)]
 fn add_bounds(
@@ -37,16 +62,11 @@ fn add_bounds(
     ensures bounds { OnOk result (fits_in_loop head.now path.old ≡ true → (at : List ℕ) → AddsBounds found.old.items found.new.items (nest_of (depth - 1) head.now at).loops) }
     ensures small { OnOk result (All IsSmallBound found.old.items → All IsSmallBound found.new.items) }
 {
-    let header = Header::of(alloc, head)?;
-    if header.passes_hull(path.as_slice()) {
+    enter(alloc, head, path, found)?;
+    if depth == 1 {
         return Ok(());
     }
-    let range = header.range(alloc, path.as_slice())?;
-    found.push(bound_of(alloc, head, range)?)?;
-    path.enter(range)?;
-    if depth > 1 {
-        add_bounds_in_body(alloc, head.body.as_slice(), depth - 1, path, found)?;
-    }
+    add_bounds_in_body(alloc, head.body.as_slice(), depth - 1, path, found)?;
     Ok(())
 }
 
@@ -65,7 +85,10 @@ fn add_bounds_in_body(
 {
     match body {
         [] => Ok(()),
-        [only] => add_bounds_in(alloc, only, depth, path, found),
+        [only] => {
+            add_bounds_in(alloc, only, depth, path, found)?;
+            Ok(())
+        }
         [_, _, ..] => Ok(()),
     }
 }
@@ -83,8 +106,14 @@ fn add_bounds_in(
     ensures small { OnOk result (All IsSmallBound found.old.items → All IsSmallBound found.new.items) }
 {
     match stmt {
-        Stmt::For(head) => add_bounds(alloc, head, depth, path, found),
-        Stmt::Block(body) => add_bounds_in_body(alloc, body.as_slice(), depth, path, found),
+        Stmt::For(head) => {
+            add_bounds(alloc, head, depth, path, found)?;
+            Ok(())
+        }
+        Stmt::Block(body) => {
+            add_bounds_in_body(alloc, body.as_slice(), depth, path, found)?;
+            Ok(())
+        }
         Stmt::Assign { .. } => Ok(()),
         Stmt::AddTo { .. } => Ok(()),
         Stmt::Declare { .. } => Ok(()),
