@@ -1,0 +1,10 @@
+mod DepthLemmas
+mod LocalLemmas
+mod FrontLemmas
+mod AskedLemmas
+mod FormLemmas
+mod SoundLemmas
+mod StandLemmas
+mod BandLemmas
+mod PlaceLemmas
+mod BoundLemmas

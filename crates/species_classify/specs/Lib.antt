@@ -1,0 +1,5 @@
+pub mod Places
+pub mod Bands
+pub mod Decisions
+pub mod Plans
+pub mod Law
