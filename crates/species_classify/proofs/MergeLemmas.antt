@@ -16,7 +16,7 @@ use Rattle.species_references.specs.Law.{HasTurns}
 use Rattle.species_references.specs.References.{IsReference}
 use Rattle.species_references.specs.declared.nest.Reference.{Reference as Held}
 use Rattle.species_references.proofs.TurnLaws.{each_to_all, references_have_turns}
-use Rattle.species_report.proofs.MergeableLaws.{each_of_all, all_mergeable}
+use Rattle.species_ranges.proofs.MergeableLaws.{each_of_all, all_mergeable}
 use Rattle.species_classify.specs.Places.{StandsIn}
 use Rattle.species_classify.proofs.PlaceLemmas.{IsPlaced, standing_placed}
 

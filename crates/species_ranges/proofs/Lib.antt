@@ -3,3 +3,4 @@ pub mod KeepLaws
 pub mod SmallLaws
 pub mod BoundedLaws
 mod RangeLemmas
+pub mod MergeableLaws

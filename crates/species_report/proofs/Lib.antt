@@ -1,3 +1,2 @@
-pub mod MergeableLaws
 mod HeadLemmas
 mod PartLemmas

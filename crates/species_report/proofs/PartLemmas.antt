@@ -37,7 +37,7 @@ use Rattle.species_report.specs.Heads.{loops_seen}
 use Rattle.species_report.specs.Lines.{HaveLines}
 use Rattle.species_report.specs.Table.{joined, names_in, place_line, AreOfNest, IsLineOf, IsOfLoop, HaveParts, IsTable}
 use Rattle.species_report.proofs.HeadLemmas.{seen_more}
-use Rattle.species_report.proofs.MergeableLaws.{each_of_all, all_mergeable}
+use Rattle.species_ranges.proofs.MergeableLaws.{each_of_all, all_mergeable}
 
 -- ---- lists
 

@@ -53,7 +53,7 @@ use Rattle.species_references.specs.declared.nest.Reference.{Reference}
 use Rattle.species_references.proofs.TurnLaws.{each_to_all}
 use Rattle.species_ranges.proofs.BoundedLaws.{IsSize, IsBounded}
 use Rattle.species_report.specs.Table.{names_in}
-use Rattle.species_report.proofs.MergeableLaws.{mergeable}
+use Rattle.species_ranges.proofs.MergeableLaws.{mergeable}
 use Rattle.species_truth.proofs.HeadLaws.{HasConstantEnds}
 use Rattle.species_truth.proofs.ListLemmas.{any_one, each_at, each_of_all, weaker}
 use Rattle.species_truth.proofs.WholeBoxes.{Settles, IsWholeBox, boxes_whole}
