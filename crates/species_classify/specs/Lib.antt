@@ -2,4 +2,3 @@ pub mod Places
 pub mod Bands
 pub mod Decisions
 pub mod Plans
-pub mod Law
