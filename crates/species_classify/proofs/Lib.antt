@@ -8,3 +8,7 @@ mod StandLemmas
 mod BandLemmas
 mod PlaceLemmas
 mod BoundLemmas
+mod CountLemmas
+mod MergeLemmas
+mod DecisionLemmas
+mod ArcLemmas

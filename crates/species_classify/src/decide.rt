@@ -1,12 +1,13 @@
 //! What the dependences of a nest decide.
 
-ghost use Rattle.std.specs.Prelude.{◌≡◌, ◌<◌, ◌≤◌, ℕ, length, IfOk};
+ghost use Rattle.std.specs.Prelude.{◌≡◌, ◌<◌, ◌≤◌, ◌^◌, ℕ, length, IfOk};
 ghost use Rattle.std.specs.List.{Any};
 ghost use Rattle.species_ast.specs.Scope.Nests.{front_of};
 ghost use Rattle.species_ast.specs.Scope.WellMade.{IsWellMade};
 ghost use Rattle.species_gather.specs.Summed.{summed_arrays};
 ghost use Rattle.species_references.specs.Ranges.{ranges_seen, ranges_in_loop};
 ghost use Rattle.species_depend.specs.Carried.{AreAsked};
+ghost use Rattle.species_classify.specs.Counts.{most_in_loop};
 ghost use Rattle.species_classify.specs.Decisions.{sequential, parallel, IsSharedDecisionOf, IsDecidedBy, IsDecision};
 ghost use Rattle.species_classify.specs.Places.{StandsIn};
 
@@ -135,6 +136,7 @@ pub(crate) fn decide(
     requires made { IsWellMade unit.now }
     requires stands { StandsIn unit.now head.now (ranges_seen path.now) }
     requires ranges { ranges_seen ranges.now ≡ ranges_in_loop head.now (ranges_seen path.now) }
+    requires few { most_in_loop head.now < 2 ^ 32 }
     ensures decision { IfOk result (IsDecision unit.now head.now (ranges_seen path.now)) }
     ensures deep { IfOk result (λ d. d.depth ≤ length (front_of head.now)) }
 {

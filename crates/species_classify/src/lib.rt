@@ -3,6 +3,7 @@
 #![tactic(auto)]
 
 mod bands;
+mod counts;
 mod decide;
 mod locals;
 mod plan;
