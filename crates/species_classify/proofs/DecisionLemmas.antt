@@ -48,18 +48,7 @@ none_first : (xs : List ℕ) → slice_get xs 0 ≡ None → xs ≡ []
 none_first [] is = refl
 none_first (x ∷ xs) is = absurd cc
 
--- ---- the longest band
-
--- 32 bits hold the number of loops of a band, and there is at least one
-pub front_is : (u : Program) (head : Loop) (path : List Range) (outer front n : ℕ) → IsWellMade u → StandsIn u head path → outer ≡ length path → IsLongestBand outer (front_of head) n → front ≡ min n 4294967295
-    → (front ≡ n) × (0 < front) × (front ≤ length (front_of head))
-front_is u head path outer front n well stands same longest is =
-    let here : IsLongestBand (length path) (front_of head) n = subst (λ (k : ℕ). IsLongestBand k (front_of head) n) same longest in
-    let within : n ≤ length (front_of head) = band_within (length path) n (front_of head) here in
-    let few : front ≡ n = omega (arith, is, within, stands_shallow u head path well stands) in
-    (few, omega (arith, few, some_band u head path n well stands here), omega (arith, few, within))
-
--- ---- the references
+-- ---- the ranges around
 
 seen_length : (path : List LoopRange) → length (ranges_seen path) ≡ length path
 seen_length path = length-map path range_seen
@@ -72,6 +61,19 @@ path_short u head path well stands = omega (arith, outer_fits u head path well s
 
 pub path_small : (u : Program) (head : Loop) (path : List LoopRange) → IsWellMade u → StandsIn u head (ranges_seen path) → HasSmallPath path
 path_small u head path well stands = sound_path path (stands_well u head (ranges_seen path) well stands).sound
+
+-- ---- the longest band
+
+-- 32 bits hold the number of loops of a band, and there is at least one
+pub front_is : (u : Program) (head : Loop) (path : List LoopRange) (outer front n : ℕ) → IsWellMade u → StandsIn u head (ranges_seen path) → outer ≡ length path → IsLongestBand outer (front_of head) n
+    → front ≡ min n 4294967295 → (front ≡ n) × (0 < front) × (front ≤ length (front_of head))
+front_is u head path outer front n well stands same longest is =
+    let here : IsLongestBand (length (ranges_seen path)) (front_of head) n = subst (λ (k : ℕ). IsLongestBand k (front_of head) n) (same ∙ sym (seen_length path)) longest in
+    let within : n ≤ length (front_of head) = band_within (length (ranges_seen path)) n (front_of head) here in
+    let few : front ≡ n = omega (arith, is, within, stands_shallow u head (ranges_seen path) well stands) in
+    (few, omega (arith, few, some_band u head (ranges_seen path) n well stands here), omega (arith, few, within))
+
+-- ---- the references
 
 abbrev pub Shows : Program → Loop → List LoopRange → List Reference → Type 0
 Shows u head path refs = Pairwise (IsReference (sizes_of (source_context u)) (length path + 1)) refs (references_of (adds_of []) head [] (ranges_seen path) 1)
