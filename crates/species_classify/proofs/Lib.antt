@@ -1,4 +1,5 @@
 mod DepthLemmas
+mod DecisionLemmas
 mod LocalLemmas
 mod FrontLemmas
 mod AskedLemmas
