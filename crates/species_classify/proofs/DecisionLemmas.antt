@@ -1,5 +1,5 @@
 -- What the bands of a nest decide.
-use Rattle.std.proofs.Common.{◌≡◌, ◌≢◌, refl, ap, sym, ◌∙◌, subst, ℕ, ◌<◌, ◌≤◌, List, [], length, take, take_all, All}
+use Rattle.std.proofs.Common.{◌≡◌, ◌≢◌, refl, ap, sym, ◌∙◌, subst, ℕ, ◌<◌, ◌≤◌, List, length, take, take_all, All}
 use Rattle.std.specs.Prelude.{slice_index_or}
 use Rattle.std.specs.List.{Any}
 use Rattle.species_arcs.specs.declared.plans.Reason.TheVariants as reason
