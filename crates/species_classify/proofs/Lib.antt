@@ -1,8 +1,8 @@
 mod DepthLemmas
-mod DecisionLemmas
+mod ReasonLemmas
 mod LocalLemmas
 mod FrontLemmas
-mod AskedLemmas
+pub mod AskedLemmas
 mod FormLemmas
 mod SoundLemmas
 mod StandLemmas

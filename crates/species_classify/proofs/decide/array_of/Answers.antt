@@ -1,4 +1,4 @@
-use Rattle.species_classify.proofs.DecisionLemmas.{array_here, none_numbered}
+use Rattle.species_classify.proofs.ReasonLemmas.{array_here, none_numbered}
 use Rattle.species_classify.proofs.decide.array_of.Goals as goal
 
 pub returns-then-reference-number : goal.returns-then-reference-number

@@ -1,4 +1,4 @@
-use Rattle.species_classify.proofs.DecisionLemmas.{shared_carried}
+use Rattle.species_classify.proofs.ReasonLemmas.{shared_carried}
 use Rattle.species_classify.proofs.decide.shared_decision.Goals as goal
 
 pub returns-in-Carried : goal.returns-in-Carried

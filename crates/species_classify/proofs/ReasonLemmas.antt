@@ -1,4 +1,4 @@
--- What the bands of a nest decide.
+-- The array that a reason names, and the decision that gives the reason.
 use Rattle.std.proofs.Common.{◌≡◌, ◌≢◌, refl, ap, sym, ◌∙◌, subst, ℕ, ◌<◌, ◌≤◌, List, length, take, take_all, All}
 use Rattle.std.specs.Prelude.{slice_index_or}
 use Rattle.std.specs.List.{Any}
