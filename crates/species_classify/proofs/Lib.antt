@@ -1,7 +1,8 @@
 mod DepthLemmas
+mod ReasonLemmas
 mod LocalLemmas
 mod FrontLemmas
-mod AskedLemmas
+pub mod AskedLemmas
 mod FormLemmas
 mod SoundLemmas
 mod StandLemmas
