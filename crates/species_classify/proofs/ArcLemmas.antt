@@ -1,5 +1,6 @@
 -- The arcs of a band from its parts.
-use Rattle.std.proofs.Common.{◌≡◌, refl, ap, sym, ◌∙◌, subst, arith, ℕ, zero, suc, ◌+◌, ◌-◌, ◌<◌, ◌≤◌, List, [], ◌∷◌, ◌++◌, length, length-map, All}
+use Rattle.std.proofs.Common.{◌≡◌, refl, ap, sym, ◌∙◌, subst, arith, ℕ, zero, suc, ◌+◌, ◌-◌, ◌<◌, ◌≤◌, List, [], ◌∷◌, ◌++◌, length, All}
+use Rattle.std.proofs.lemmas.List.{length-map}
 use Rattle.species_arcs.specs.Pairwise.{Pairwise}
 use Rattle.species_arcs.specs.declared.places.Arc.{Arc}
 use Rattle.species_ast.specs.declared.tree.Loop.{Loop, out-Loop}
@@ -25,8 +26,8 @@ use Rattle.species_classify.proofs.MergeLemmas.{nest_mergeable}
 
 -- ---- bounds
 
-pub bounds_are : (below : ℕ) (head : Loop) (new : List BandBound) → AddsBounds [] new (nest_of below head []).loops → AreBandBounds below head new
-bounds_are below head new added = subst (λ (bs : List BandBound). AreBandBounds below head bs) (sym added.1) added.2
+pub bounds_are : (below : ℕ) (head : Loop) (old new : List BandBound) → old ≡ [] → AddsBounds old new (nest_of below head []).loops → AreBandBounds below head new
+bounds_are below head old new none added = subst (λ (bs : List BandBound). AreBandBounds below head bs) (sym (added.1 ∙ ap (λ l. l ++ added.0) none)) added.2
 
 pub bounds_count : (depth : ℕ) (head : Loop) (bands : List BandBound) → 0 < depth → depth ≤ length (front_of head) → AreBandBounds (depth - 1) head bands → length bands ≡ depth
 bounds_count depth head bands some deep bounds =

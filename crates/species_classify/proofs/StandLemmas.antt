@@ -18,11 +18,11 @@ use Rattle.species_ast.specs.Scope.Nests.{Bounds, front_with, only_loops, front_
 use Rattle.species_ast.specs.Scope.WellMade.{Around, Made, made, made_at, made_loop, list_holds, list_keeps, is_made, fronts_of, head_holds, head_keeps, outermost, IsWellMade}
 use Rattle.species_ast.proofs.Folds.{fold_stmt-Assign, fold_stmt-AddTo, fold_stmt-Declare, fold_stmt-SetLocal, fold_stmt-If, fold_stmt-For, fold_stmt-Block, fold_loop, fold_loop-out}
 use Rattle.species_ast.proofs.Induction.{Each, each_all, stmt_ind}
-use Rattle.species_occurrences.proofs.DepthLaws.{each_contains}
 use Rattle.species_occurrences.proofs.PositionLaws.{each_append, loops_in-Assign, loops_in-AddTo, loops_in-Declare, loops_in-SetLocal, loops_in-If, loops_in-For, loops_in-Block}
 use Rattle.species_loops.specs.Bands.{front_in}
 use Rattle.species_ranges.specs.Fitting.{fits_at, fits_within, fits_in, fits_in_loop}
 use Rattle.species_ranges.proofs.KeepLaws.{keeps_head, keeps_fits}
+use Rattle.species_ranges.proofs.OutermostLaws.{each_contains}
 use Rattle.species_classify.specs.Places.{StandsIn}
 use Rattle.species_classify.proofs.SoundLemmas.{IsSound, sound_head}
 
