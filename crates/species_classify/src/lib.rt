@@ -8,6 +8,7 @@ mod decide;
 mod locals;
 mod plan;
 
+pub use bands::Band;
 pub use decide::Decision;
 pub use plan::plan_nest;
 
