@@ -52,14 +52,19 @@ band_mergeable u head path depth gathered refs well stands shown = nest_mergeabl
 pub no_arcs : (depth : ℕ) (u : Program) (head : Loop) (path : List LoopRange) (gathered : List ℕ) (arcs : List Arc) → depth ≡ 0 → arcs ≡ [] → AreBandArcs depth u head (ranges_seen path) gathered arcs
 no_arcs depth u head path gathered arcs none is = subst (λ (d : ℕ). AreBandArcs d u head (ranges_seen path) gathered arcs) (sym none) is
 
-pub band_arcs : (depth : ℕ) (u : Program) (head : Loop) (path : List LoopRange) (gathered : List ℕ) (refs : List Reference) (bands : List BandBound) (arcs : List Arc) (outer : ℕ) → 0 < depth → outer ≡ length path
-    → ShowsBand u head path depth gathered refs → AreBandBounds (depth - 1) head bands → AreArcsOf outer bands refs arcs → AreBandArcs depth u head (ranges_seen path) gathered arcs
-band_arcs zero u head path gathered refs bands arcs outer some same shown bounds are = absurd (omega (arith, some))
-band_arcs (suc below) u head path gathered refs bands arcs outer some same shown bounds are =
+arcs_of : (outer : ℕ) (bands bounds : List BandBound) (refs seen : List Reference) (arcs found : List Arc) → bounds ≡ bands → seen ≡ refs → arcs ≡ found → AreArcsOf outer bounds seen found → AreArcsOf outer bands refs arcs
+arcs_of outer bands bounds refs seen arcs found same_bounds same_refs is h =
+    subst (λ (xs : List Arc). AreArcsOf outer bands refs xs) (sym is) (subst (λ (rs : List Reference). AreArcsOf outer bands rs found) same_refs (subst (λ (bs : List BandBound). AreArcsOf outer bs seen found) same_bounds h))
+
+pub band_arcs : (depth : ℕ) (u : Program) (head : Loop) (path : List LoopRange) (gathered : List ℕ) (refs seen : List Reference) (bands bounds : List BandBound) (arcs found : List Arc) (outer : ℕ) → 0 < depth
+    → outer ≡ length path → seen ≡ refs → bounds ≡ bands → arcs ≡ found → ShowsBand u head path depth gathered refs → AreBandBounds (depth - 1) head bands → AreArcsOf outer bounds seen found
+    → AreBandArcs depth u head (ranges_seen path) gathered arcs
+band_arcs zero u head path gathered refs seen bands bounds arcs found outer some same same_refs same_bounds is shown ends are = absurd (omega (arith, some))
+band_arcs (suc below) u head path gathered refs seen bands bounds arcs found outer some same same_refs same_bounds is shown ends are =
     let one : suc below - 1 ≡ below = omega arith in (
       refs,
       bands,
       shown_there u head path (suc below) gathered refs shown,
-      subst (λ (n : ℕ). AreBandBounds n head bands) one bounds,
-      subst (λ (k : ℕ). AreArcsOf k bands refs arcs) (same ∙ sym (length-map path range_seen)) are,
+      subst (λ (n : ℕ). AreBandBounds n head bands) one ends,
+      subst (λ (k : ℕ). AreArcsOf k bands refs arcs) (same ∙ sym (length-map path range_seen)) (arcs_of outer bands bounds refs seen arcs found same_bounds same_refs is are),
     )

@@ -76,30 +76,29 @@ front_is u head path outer front n well stands same longest is =
 
 -- ---- the references
 
-abbrev pub Shows : Program → Loop → List LoopRange → List Reference → Type 0
-Shows u head path refs = Pairwise (IsReference (sizes_of (source_context u)) (length path + 1)) refs (references_of (adds_of []) head [] (ranges_seen path) 1)
+-- the references that are found, when they are kept by array
+pub are_plain : (u : Program) (head : Loop) (path : List LoopRange) (found refs : List Reference) → refs ≡ found
+    → Pairwise (IsReference (sizes_of (source_context u)) (length path + 1)) found (references_of (adds_of []) head [] (ranges_seen path) 1) → AreNumberedFrom 0 found → ArePlain u head (ranges_seen path) refs
+are_plain u head path found refs same shown numbered = subst (ArePlain u head (ranges_seen path)) (sym same) (record {
+  shown = subst (λ (n : ℕ). Pairwise (IsReference (sizes_of (source_context u)) (n + 1)) found (references_of (adds_of []) head [] (ranges_seen path) 1)) (sym (seen_length path)) shown;
+  numbered = numbered;
+})
 
-shown_there : (u : Program) (head : Loop) (path : List LoopRange) (refs : List Reference) → Shows u head path refs
-    → Pairwise (IsReference (sizes_of (source_context u)) (length (ranges_seen path) + 1)) refs (references_of (adds_of []) head [] (ranges_seen path) 1)
-shown_there u head path refs shown =
-    subst (λ (n : ℕ). Pairwise (IsReference (sizes_of (source_context u)) (n + 1)) refs (references_of (adds_of []) head [] (ranges_seen path) 1)) (sym (seen_length path)) shown
-
-pub plain_asked : (u : Program) (head : Loop) (path : List LoopRange) (refs : List Reference) (outer front level : ℕ) → IsWellMade u → StandsIn u head (ranges_seen path) → outer ≡ length path → Shows u head path refs
-    → front ≤ length (front_of head) → level < front → AreAsked refs outer level
-plain_asked u head path refs outer front level well stands same shown within below =
-    subst (λ (k : ℕ). AreAsked refs k level) (seen_length path ∙ sym same) (nest_asked u head (ranges_seen path) refs front level well stands (shown_there u head path refs shown) within below)
+pub plain_asked : (u : Program) (head : Loop) (path : List LoopRange) (refs : List Reference) (outer front level : ℕ) → IsWellMade u → StandsIn u head (ranges_seen path) → outer ≡ length path
+    → ArePlain u head (ranges_seen path) refs → front ≤ length (front_of head) → level < front → AreAsked refs outer level
+plain_asked u head path refs outer front level well stands same plain within below =
+    subst (λ (k : ℕ). AreAsked refs k level) (seen_length path ∙ sym same) (nest_asked u head (ranges_seen path) refs front level well stands plain.shown within below)
 
 -- ---- the decision
 
 pub plain_decision : (u : Program) (head : Loop) (path : List LoopRange) (refs : List Reference) (outer front n : ℕ) (o : Option ℕ) (d : Decision)
     → o ≡ slice_get (outer_locals_set (out-Loop head).body) 0 → o ≡ None → outer ≡ length path → front ≡ n → IsLongestBand outer (front_of head) n
-    → Shows u head path refs → AreNumberedFrom 0 refs → IsDecidedBy refs outer front (summed_arrays u head) d → IsDecision u head (ranges_seen path) d
-plain_decision u head path refs outer front n o d found none same few longest shown numbered decided =
+    → ArePlain u head (ranges_seen path) refs → IsDecidedBy refs outer front (summed_arrays u head) d → IsDecision u head (ranges_seen path) d
+plain_decision u head path refs outer front n o d found none same few longest plain decided =
     let level : outer ≡ length (ranges_seen path) = same ∙ sym (seen_length path) in
     let band : IsLongestBand (length (ranges_seen path)) (front_of head) front =
     subst (λ (k : ℕ). IsLongestBand k (front_of head) front) level (subst (λ (m : ℕ). IsLongestBand outer (front_of head) m) (sym few) longest) in
     let by : IsDecidedBy refs (length (ranges_seen path)) front (summed_arrays u head) d = subst (λ (k : ℕ). IsDecidedBy refs k front (summed_arrays u head) d) level decided in
-    let plain : ArePlain u head (ranges_seen path) refs = record { shown = shown_there u head path refs shown; numbered = numbered } in
     subst (λ xs. IsDecisionWith xs u head (ranges_seen path) d) (sym (none_first (outer_locals_set (out-Loop head).body) (sym found ∙ none)))
     (refs, front, plain, band, by)
 
