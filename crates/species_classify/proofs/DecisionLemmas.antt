@@ -78,9 +78,9 @@ front_is u head path outer front n well stands same longest is =
 
 -- the references that are found, when they are kept by array
 pub are_plain : (u : Program) (head : Loop) (path : List LoopRange) (found refs : List Reference) → refs ≡ found
-    → Pairwise (IsReference (sizes_of (source_context u)) (length path + 1)) found (references_of (adds_of []) head [] (ranges_seen path) 1) → AreNumberedFrom 0 found → ArePlain u head (ranges_seen path) refs
-are_plain u head path found refs same shown numbered = subst (ArePlain u head (ranges_seen path)) (sym same) (record {
-  shown = subst (λ (n : ℕ). Pairwise (IsReference (sizes_of (source_context u)) (n + 1)) found (references_of (adds_of []) head [] (ranges_seen path) 1)) (sym (seen_length path)) shown;
+    → ((at : List ℕ) → Pairwise (IsReference (sizes_of (source_context u)) (length path + 1)) found (references_of (adds_of []) head at (ranges_seen path) 1)) → AreNumberedFrom 0 found → ArePlain u head (ranges_seen path) refs
+are_plain u head path found refs same listed numbered = subst (ArePlain u head (ranges_seen path)) (sym same) (record {
+  shown = subst (λ (n : ℕ). Pairwise (IsReference (sizes_of (source_context u)) (n + 1)) found (references_of (adds_of []) head [] (ranges_seen path) 1)) (sym (seen_length path)) (listed []);
   numbered = numbered;
 })
 
