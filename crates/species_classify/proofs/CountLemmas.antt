@@ -1,6 +1,6 @@
 -- How many references expressions, statements and nests have at most.
-use Rattle.std.proofs.Common.{◌≡◌, ◌∙◌, refl, sym, ap, subst, arith, ℕ, zero, suc, ◌+◌, ◌-◌, ◌<◌, ◌≤◌, ◌^◌, List, [], ◌∷◌, ◌++◌, map, take, length, get_or, Bool, true, false, if◌then◌else◌, Option, Some, None, length-append}
-use Rattle.std.proofs.lemmas.List.{length-map, take_more, take_all}
+use Rattle.std.proofs.Common.{◌≡◌, ◌∙◌, refl, sym, ap, arith, ℕ, zero, suc, ◌+◌, ◌-◌, ◌<◌, ◌≤◌, ◌^◌, List, [], ◌∷◌, ◌++◌, map, take, length, get_or, Bool, true, false, if◌then◌else◌, Option, Some, None, length-append}
+use Rattle.std.proofs.lemmas.List.{length-map, take_more}
 use Rattle.species_ast.specs.declared.tree.Binary.{Binary}
 use Rattle.species_ast.specs.declared.tree.Expr.{Expr}
 use Rattle.species_ast.specs.declared.tree.Expr.TheVariants as expr
@@ -10,14 +10,14 @@ use Rattle.species_ast.specs.declared.tree.Stmt.{Stmt}
 use Rattle.species_ast.specs.declared.tree.Stmt.TheVariants as stmt
 use Rattle.species_ast.specs.declared.tree.Unary.{Unary}
 use Rattle.species_ast.specs.declared.tree.Value.{Value}
-use Rattle.species_ast.specs.Accesses.{Reads, Writes, Adds}
+use Rattle.species_ast.specs.Accesses.{Writes, Adds}
 use Rattle.species_ast.specs.Scope.Hulls.{Range, has_empty}
 use Rattle.species_ast.specs.Scope.References.{Where, Reference, perhaps, placed, in_turn, Elements, elements_at, elements_of, subscripts, value_references, target_reference, addition_references, init_references, Adding, Referring, list_references, references_at, references_inside, stmt_references, references_of, unless_empty}
 use Rattle.species_ast.proofs.Folds.{fold_stmt-Assign, fold_stmt-AddTo, fold_stmt-Declare, fold_stmt-SetLocal, fold_stmt-If, fold_stmt-For, fold_stmt-Block, fold_loop, fold_loop-out}
 use Rattle.species_ast.proofs.Induction.{Each, stmt_ind}
 use Rattle.species_ast.proofs.Paras.{para_expr-Literal, para_expr-Iter, para_expr-Local, para_expr-Unary, para_expr-Binary, para_expr-And, para_expr-Or, para_expr-Cond, para_expr-Cast}
 use Rattle.species_ast.proofs.ReferenceLaws.{numbers, elements_of-Elem, elements_of-in_order}
-use Rattle.species_classify.specs.Counts.{elements_in, elements_in_init, total, most_at, most_inside, most_in, most_in_list, most_in_loop}
+use Rattle.species_classify.specs.Counts.{elements_in, elements_in_init, most_at, most_inside, most_in, most_in_list, most_in_loop}
 
 -- ---- expressions
 

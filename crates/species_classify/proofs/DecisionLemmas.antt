@@ -1,10 +1,8 @@
 -- The decision for a nest from its parts.
-use Rattle.std.proofs.Common.{◌≡◌, refl, ap, sym, ◌∙◌, subst, arith, ℕ, zero, suc, ◌+◌, ◌<◌, ◌≤◌, min, List, [], ◌∷◌, length, Option, Some, None, All}
+use Rattle.std.proofs.Common.{◌≡◌, refl, ap, sym, ◌∙◌, subst, arith, ℕ, ◌+◌, ◌<◌, ◌≤◌, min, List, [], ◌∷◌, length, Option, Some, None}
 use Rattle.std.proofs.lemmas.List.{length-map}
 use Rattle.std.specs.Prelude.{slice_get}
-use Rattle.std.specs.List.{Any}
 use Rattle.species_arcs.specs.Pairwise.{Pairwise}
-use Rattle.species_arcs.specs.declared.plans.Mode.TheVariants.{Plain, Shared}
 use Rattle.species_arcs.specs.declared.plans.Reason.TheVariants as reason
 use Rattle.species_ast.specs.declared.tree.Loop.{Loop, out-Loop}
 use Rattle.species_ast.specs.declared.tree.Unit.{Unit as Program}
@@ -28,9 +26,9 @@ use Rattle.species_classify.specs.declared.bands.Band.{Band}
 use Rattle.species_classify.specs.declared.bands.Band.TheVariants.{Free, Carried}
 use Rattle.species_classify.specs.declared.decide.Decision.{Decision}
 use Rattle.species_classify.specs.Bands.{IsBandOf}
-use Rattle.species_classify.specs.Decisions.{sequential, parallel, IsSharedDecision, IsPlainDecision, IsDecidedBy, IsDecisionWith, IsDecision}
+use Rattle.species_classify.specs.Decisions.{sequential, IsSharedDecision, IsPlainDecision, IsDecidedBy, IsDecisionWith, IsDecision}
 use Rattle.species_classify.specs.Places.{StandsIn, ArePlain}
-use Rattle.species_classify.proofs.AskedLemmas.{nest_asked, stands_short, sound_path}
+use Rattle.species_classify.proofs.AskedLemmas.{nest_asked, sound_path}
 use Rattle.species_classify.proofs.BandLemmas.{some_band, band_within}
 use Rattle.species_classify.proofs.StandLemmas.{stands_well, stands_shallow}
 

@@ -1,5 +1,5 @@
 -- Where a loop stands, and the references of its nest by which it is planned.
-use Rattle.std.specs.Prelude.{◌≡◌, ℕ, ◌+◌, List, [], length}
+use Rattle.std.specs.Prelude.{◌≡◌, ◌+◌, List, [], length}
 use Rattle.std.specs.List.{Contains}
 use Rattle.species_arcs.specs.Pairwise.{Pairwise}
 use Rattle.species_ast.specs.declared.tree.Loop.{Loop}

@@ -15,7 +15,6 @@ use Rattle.species_merge.specs.Bounds.{IsBoundOf}
 use Rattle.species_nests.specs.Nests.{Placed, nest_of}
 use Rattle.species_references.specs.declared.nest.Reference.{Reference}
 use Rattle.species_references.specs.References.{adds_of, IsReference}
-use Rattle.species_classify.specs.declared.decide.Decision.{Decision}
 use Rattle.species_classify.specs.Decisions.{IsDecision}
 
 -- the bound of a loop is added to a list

@@ -1,4 +1,4 @@
-use Rattle.std.proofs.Common.{◌≡◌, ◌∙◌, ◌-◌, ap, sym, subst, true, []}
+use Rattle.std.proofs.Common.{◌∙◌, ◌-◌, ap, []}
 use Rattle.species_ranges.specs.Fitting.{fits_in_loop}
 use Rattle.species_classify.proofs.ArcLemmas.{bounds_are, bounds_count}
 use Rattle.species_classify.proofs.plan.band_bounds.Goals as goal

@@ -1,4 +1,3 @@
-use Rattle.std.proofs.Common.{◌∙◌, ap, sym, subst, arith}
 use Rattle.species_references.specs.Ranges.{ranges_seen}
 use Rattle.species_classify.proofs.DecisionLemmas.{path_short, path_small}
 use Rattle.species_classify.proofs.StandLemmas.{stands_fits}
