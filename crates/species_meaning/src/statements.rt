@@ -13,8 +13,9 @@ use crate::arrays::Arrays;
 use crate::expressions::{eval, is_true, target, trap};
 use crate::frame::Frame;
 use crate::kinds::{array_kind, local_kind};
+use crate::quick::{binary, convert};
 use species_ast::{Binary, Expr, Kind, Loop, Stmt, Test, Unit, Value};
-use species_cint::{binary, convert, number};
+use species_cint::number;
 use std::alloc::Global;
 
 /// Runs a program from these arrays. Parallel marks and species lines mean nothing here, and an atomic
