@@ -146,6 +146,15 @@ read_to_end refusal status line had left old new h long read IsSaid.too_long too
 read_to_end refusal status line had left old new h long read IsSaid.read_fault took = absurd (omega (arith, h))
 read_to_end refusal status line had left old new h long read (IsSaid.program r l said) took = inl (read tt).whole
 
+-- with status 5 an input that is not too long was read to its end, unless a read failed
+pub cut_at_end : (refusal : InputRefusal) (result : ℕ) (had left : Option (List ℕ)) (rose : Type 0) → result ≡ 5
+    → (err refusal ≡ err input.TooLong → GaveCount (most_bytes + 1) had left) → (IsOfProgram (err refusal) → WasRead had left (err refusal))
+    → (refusal ≡ input.ReadFault → rose) → (refusal ≡ input.Memory → result ≡ 6) → AtEnd left ⊎ (GaveCount (most_bytes + 1) had left ⊎ rose)
+cut_at_end (input.Program r) result had left rose h long read fault memory = inl (read tt).whole
+cut_at_end input.TooLong result had left rose h long read fault memory = inr (inl (long refl))
+cut_at_end input.ReadFault result had left rose h long read fault memory = inr (inr (fault refl))
+cut_at_end input.Memory result had left rose h long read fault memory = let none = memory refl in absurd (omega (arith, h, none))
+
 -- ---- a program that is read
 
 -- its bytes, and what they become

@@ -105,6 +105,10 @@ pub fn species<S: Source, K: Sink, N: Sink>(
         ⊎ (IsCutLine words.now (Rose (S.faults input.old) (S.faults input.new)) bytes (N.taken notes.old) (N.taken notes.new)
         × Rose (N.faults notes.old) (N.faults notes.new) × (output.new ≡ output.old))) }
 
+    // With lawful words the input was then read to its end, is too long, or a read failed.
+    ensures cut_read_all { result ≡ status_write_fault → IsArcs words.now → AtEnd (S.left input.new)
+        ⊎ (GaveCount (most_bytes + 1) (S.left input.old) (S.left input.new) ⊎ Rose (S.faults input.old) (S.faults input.new)) }
+
     // Words that are not lawful: nothing is read, and there is memory enough.
     ensures unread { (IsArcs words.now → ⊥) → input.new ≡ input.old }
     ensures unlawful { (IsArcs words.now → ⊥) → (result ≡ status_usage) ⊎ (result ≡ status_write_fault) }

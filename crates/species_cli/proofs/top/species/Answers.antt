@@ -1,6 +1,6 @@
 use Rattle.std.proofs.Common.{rules, arith, ap, refl, inl, ◌≢◌}
 use Rattle.species_cli.specs.Answer.{IsArcs}
-use Rattle.species_cli.proofs.TopLemmas.{err, gave_usage, cut_usage, came, gave_said, cut_said, is_read_fault, read_to_end, came_as, gave_table, cut_table, unlawful_status, program_status, unread_status}
+use Rattle.species_cli.proofs.TopLemmas.{err, gave_usage, cut_usage, came, gave_said, cut_said, is_read_fault, read_to_end, cut_at_end, came_as, gave_table, cut_table, unlawful_status, program_status, unread_status}
 use Rattle.species_cli.proofs.top.species.Goals as goal
 
 pub returns-then-not-is_arcs-clause-answered : goal.returns-then-not-is_arcs-clause-answered
@@ -29,6 +29,13 @@ returns-in-Err-clause-cut_short g c = λ cut.
     let lawful : IsArcs c.args.words.now = c.is_arcs.ensures.0 (search rules) in
     cut_said c.args.words.now _ c.in-Err.refusal _ _ _ _ _ _ _ lawful (λ e. c.in-Err.ensures.fault (ap err e))
     (came c.in-Err.refusal _ _ c.in-Err.ensures.read c.in-Err.ensures.stopped c.in-Err.ensures.budget) (c.refuse.ensures.part cut) (c.refuse.ensures.fault cut) refl
+
+pub returns-in-Err-clause-cut_read_all : goal.returns-in-Err-clause-cut_read_all
+returns-in-Err-clause-cut_read_all g c = λ cut lawful.
+    cut_at_end c.in-Err.refusal c.refuse.result _ _ _ cut c.in-Err.ensures.stopped c.in-Err.ensures.read (λ e. c.in-Err.ensures.fault (ap err e)) c.refuse.ensures.memory
+
+pub returns-clause-cut_read_all : goal.returns-clause-cut_read_all
+returns-clause-cut_read_all g c = λ cut lawful. inl (c.in-Ok.ensures.read tt).whole
 
 pub returns-in-Err-clause-refused_read_all : goal.returns-in-Err-clause-refused_read_all
 returns-in-Err-clause-refused_read_all g c = λ is.
