@@ -14,9 +14,8 @@ use crate::arrays::Arrays;
 use crate::frame::Frame;
 use crate::kinds::{array_kind, binary_kind, kind, local_kind, unary_kind};
 use crate::places::{finish, next, sizes, tail};
-use crate::quick::{binary, convert, near};
 use species_ast::{Binary, Expr, Kind, Trap, Unary, Undefined, Unit, Value};
-use species_cint::{joint, kind_of, unary};
+use species_cint::{binary, convert, joint, kind_of, unary};
 
 /// A value, and the kind that the text of its expression tells.
 #[derive(Clone, Copy)]
@@ -300,18 +299,6 @@ fn in_kind(v: Value, kind: Kind) -> Typed
     }
 }
 
-/// The value of a subscript.
-#[cycle(eval)]
-#[inline(always)]
-fn subscript(unit: &Unit, arrays: &Arrays, frame: &Frame, e: &Expr) -> Result<Value, Trap>
-    ensures { result ≡ value (source_context unit.now) e.now frame.now arrays.now }
-{
-    match near(frame, e) {
-        Some(n) => Ok(Value::Int(n)),
-        None => eval(unit, arrays, frame, e),
-    }
-}
-
 /// The place in row order of an element, or the greatest word for a place that is too great for
 /// one. All subscripts are evaluated before the first is tested.
 #[cycle(eval)]
@@ -327,7 +314,7 @@ pub(crate) fn target(
     let mut sizes = sizes(unit, array);
     let mut place = Some(0);
     for e in subs {
-        match subscript(unit, arrays, frame, e) {
+        match eval(unit, arrays, frame, e) {
             Err(why) => return Err(why),
             Ok(v) => {
                 place = next(sizes, place, v);
