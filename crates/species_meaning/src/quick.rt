@@ -56,11 +56,22 @@ fn int_result(op: Binary, a: i32, b: i32) -> Option<i32>
     }
 }
 
+/// The same by the definition for all kinds.
+#[inline(always)]
+fn int_operator(op: Binary, a: i32, b: i32) -> Option<i32>
+    ensures { IfSome result (λ n. binary_of op (Int a) (Int b) ≡ Ok (Int n)) }
+{
+    match int_result(op, a, b) {
+        None => None,
+        Some(n) => Some(n),
+    }
+}
+
 #[inline(always)]
 fn int_binary(op: Binary, a: i32, b: i32) -> Result<Value, Undefined>
     ensures { result ≡ binary_of op (Int a) (Int b) }
 {
-    match int_result(op, a, b) {
+    match int_operator(op, a, b) {
         Some(n) => Ok(Value::Int(n)),
         None => species_cint::binary(op, Value::Int(a), Value::Int(b)),
     }
@@ -150,7 +161,7 @@ fn leaves(frame: &Frame, op: Binary, a: &Expr, b: &Expr) -> Option<i32>
         None => None,
         Some(x) => match leaf(frame, b) {
             None => None,
-            Some(y) => match int_result(op, x, y) {
+            Some(y) => match int_operator(op, x, y) {
                 None => None,
                 Some(n) => Some(n),
             },
@@ -206,7 +217,7 @@ fn other_binary(op: Binary, a: i32, b: i32) -> Option<i32>
 fn quick_binary(op: Binary, a: i32, b: i32) -> Option<i32>
     ensures { IfSome result (λ n. binary_of op (Int a) (Int b) ≡ Ok (Int n)) }
 {
-    match int_result(op, a, b) {
+    match int_operator(op, a, b) {
         Some(n) => Some(n),
         None => other_binary(op, a, b),
     }
@@ -285,12 +296,7 @@ fn quick_place(
 
 /// The value of an expression, as `eval` has it.
 #[inline(always)]
-pub(crate) fn evaluate(
-    unit: &Unit,
-    arrays: &Arrays,
-    frame: &Frame,
-    e: &Expr,
-) -> Result<Value, Trap>
+pub(crate) fn evaluate(unit: &Unit, arrays: &Arrays, frame: &Frame, e: &Expr) -> Result<Value, Trap>
     ensures { result ≡ value (source_context unit.now) e.now frame.now arrays.now }
 {
     match quick(unit, arrays, frame, e) {
