@@ -1,11 +1,9 @@
-use Rattle.std.proofs.Common.{rules, ◌≡◌, ap, Ok, ◌∙◌}
-use Rattle.species_ast.specs.declared.tree.Value.TheVariants.{Int}
-use Rattle.species_ast.specs.declared.tree.Expr.TheVariants as expr
-use Rattle.species_meaning.specs.Effects.{value}
-use Rattle.species_meaning.proofs.Law.{reads-Binary}
+use Rattle.std.proofs.Common.{rules, ◌≡◌, to_z, of_z, w32}
+use Rattle.species_meaning.proofs.IntLemmas.{operator_given}
 use Rattle.species_meaning.proofs.quick.near.Goals as goal
 
 pub returns-in-Some : goal.returns-in-Some
 returns-in-Some c w m =
-    let given = ap (λ r. r.gives c.args.frame.now m) (reads-Binary w c.in-Binary.op c.in-Binary.a c.in-Binary.b) ∙ c.in-Some.ensures w m in
-    rw (c.in-Binary.is) (search (rules, given))
+    let n : to_z w32 (of_z w32 c.in-Some.n) ≡ c.in-Some.n = search rules in
+    let given = operator_given w c.in-Binary.op c.in-Binary.a c.in-Binary.b c.get.result.now c.get-in-Binary.result.now c.args.frame.now m c.in-Some.n c.get.ensures c.get-in-Binary.ensures (c.in-Some.ensures w m) in
+    rw (c.in-Binary.is, n) given
