@@ -225,7 +225,6 @@ fn quick_binary(op: Binary, a: i32, b: i32) -> Option<i32>
 
 /// The value of an expression whose parts are all `int` and have values.
 #[cycle(quick)]
-#[inline(never)]
 fn quick(unit: &Unit, arrays: &Arrays, frame: &Frame, e: &Expr) -> Option<i32>
     ensures { IfSome result (λ n. value (source_context unit.now) e.now frame.now arrays.now ≡ Ok (Int n)) }
 {
@@ -239,38 +238,13 @@ fn quick(unit: &Unit, arrays: &Arrays, frame: &Frame, e: &Expr) -> Option<i32>
                 Some(at) => int_of(arrays.cell(*array, at)),
             }
         }
-        Expr::Binary(op, a, b) => match side(unit, arrays, frame, a.get()) {
+        Expr::Binary(op, a, b) => match quick(unit, arrays, frame, a.get()) {
             None => None,
-            Some(x) => match side(unit, arrays, frame, b.get()) {
+            Some(x) => match quick(unit, arrays, frame, b.get()) {
                 None => None,
                 Some(y) => quick_binary(*op, x, y),
             },
         },
-        Expr::Unary(_, _) => None,
-        Expr::And(_, _) => None,
-        Expr::Or(_, _) => None,
-        Expr::Cond(_, _, _) => None,
-        Expr::Cast(_, _) => None,
-    }
-}
-
-/// The value of a side of an operator; an element is found here, without a further call.
-#[cycle(quick)]
-#[inline(always)]
-fn side(unit: &Unit, arrays: &Arrays, frame: &Frame, e: &Expr) -> Option<i32>
-    ensures { IfSome result (λ n. value (source_context unit.now) e.now frame.now arrays.now ≡ Ok (Int n)) }
-{
-    match e {
-        Expr::Literal(v) => int_of(*v),
-        Expr::Iter(level) => Some(frame.iter(*level)),
-        Expr::Local(local) => known_int(frame.local(*local)),
-        Expr::Elem(array, subs) => {
-            match quick_place(unit, arrays, frame, *array, subs.as_slice()) {
-                None => None,
-                Some(at) => int_of(arrays.cell(*array, at)),
-            }
-        }
-        Expr::Binary(_, _, _) => quick(unit, arrays, frame, e),
         Expr::Unary(_, _) => None,
         Expr::And(_, _) => None,
         Expr::Or(_, _) => None,
