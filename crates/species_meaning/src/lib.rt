@@ -10,6 +10,7 @@ mod expressions;
 mod frame;
 mod kinds;
 mod places;
+mod quick;
 mod statements;
 
 pub use answer::RunAnswer;

@@ -10,11 +10,12 @@ ghost use Rattle.species_meaning.specs.Answers.{Runs, Gives};
 
 use crate::answer::RunAnswer;
 use crate::arrays::Arrays;
-use crate::expressions::{eval, is_true, target, trap};
+use crate::expressions::{eval, is_true, trap};
 use crate::frame::Frame;
 use crate::kinds::{array_kind, local_kind};
+use crate::quick::{binary, convert, evaluate, locate};
 use species_ast::{Binary, Expr, Kind, Loop, Stmt, Test, Unit, Value};
-use species_cint::{binary, convert, number};
+use species_cint::number;
 use std::alloc::Global;
 
 /// Runs a program from these arrays. Parallel marks and species lines mean nothing here, and an atomic
@@ -129,7 +130,7 @@ fn run_one(unit: &Unit, arrays: &mut Arrays, frame: &mut Frame, s: &Stmt) -> Res
             test,
             body,
             otherwise,
-        } => match eval(unit, arrays, frame, test) {
+        } => match evaluate(unit, arrays, frame, test) {
             Err(why) => Err(RunAnswer::Undefined(why, *place)),
             Ok(v) => {
                 if is_true(v) {
@@ -240,9 +241,9 @@ fn assign(
 ) -> Result<(), RunAnswer>
     ensures { Runs result frame.now arrays.new (assigning (source_context unit.now) place array subs.now value.now frame.now arrays.old) }
 {
-    match target(unit, arrays, frame, array, subs) {
+    match locate(unit, arrays, frame, array, subs) {
         Err(why) => Err(RunAnswer::Undefined(why, place)),
-        Ok(at) => match eval(unit, arrays, frame, value) {
+        Ok(at) => match evaluate(unit, arrays, frame, value) {
             Err(why) => Err(RunAnswer::Undefined(why, place)),
             Ok(v) => {
                 arrays.put(array, at, convert(v, array_kind(unit, array)));
@@ -265,9 +266,9 @@ fn add_to(
 ) -> Result<(), RunAnswer>
     ensures { Runs result frame.now arrays.new (adding (source_context unit.now) place array atomic subs.now value.now frame.now arrays.old) }
 {
-    match target(unit, arrays, frame, array, subs) {
+    match locate(unit, arrays, frame, array, subs) {
         Err(why) => Err(RunAnswer::Undefined(why, place)),
-        Ok(at) => match eval(unit, arrays, frame, value) {
+        Ok(at) => match evaluate(unit, arrays, frame, value) {
             Err(why) => Err(RunAnswer::Undefined(why, place)),
             Ok(v) => {
                 if atomic {
@@ -303,7 +304,7 @@ fn declare(
     frame.set(local, None);
     match init {
         None => Ok(()),
-        Some(e) => match eval(unit, arrays, frame, e) {
+        Some(e) => match evaluate(unit, arrays, frame, e) {
             Err(why) => Err(RunAnswer::Undefined(why, place)),
             Ok(v) => {
                 frame.set(local, Some(convert(v, local_kind(unit, local))));
@@ -325,7 +326,7 @@ fn set_local(
     ensures runs { Runs result frame.new arrays.now (local_set (source_context unit.now) place local (reads (source_context unit.now) value.now) frame.old arrays.now) }
     ensures iters { OnOk result (frame.new.iters ≡ frame.old.iters) }
 {
-    match eval(unit, arrays, frame, value) {
+    match evaluate(unit, arrays, frame, value) {
         Err(why) => Err(RunAnswer::Undefined(why, place)),
         Ok(v) => {
             frame.set(local, Some(convert(v, local_kind(unit, local))));

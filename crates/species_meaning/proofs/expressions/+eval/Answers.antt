@@ -1,8 +1,6 @@
-use Rattle.std.proofs.Common.{rules, refl, Some, ◌≡◌, ◌∙◌, ap, Ok}
-use Rattle.species_ast.specs.declared.tree.Expr.TheVariants as expr
-use Rattle.species_ast.specs.Operators.{joint, converted}
-use Rattle.species_meaning.specs.Effects.{value, reads}
-use Rattle.species_meaning.proofs.Choices.{typed_binary, first_chosen, second_chosen, first_typed, second_typed}
+use Rattle.std.proofs.Common.{rules, refl, Some, ◌∙◌, ap}
+use Rattle.species_meaning.specs.Effects.{reads}
+use Rattle.species_meaning.proofs.Choices.{typed_binary, first_chosen, second_chosen, first_typed}
 use Rattle.species_ast.specs.Run.{source_context}
 use Rattle.species_meaning.specs.Places.{next_in}
 use Rattle.species_meaning.proofs.Elements.{found_first, found_step}
