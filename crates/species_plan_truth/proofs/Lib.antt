@@ -1,6 +1,6 @@
 pub mod MarkLaws
-pub mod AddSameLaws
 mod AddLemmas
 mod AddOnlyLemmas
 mod MeetLemmas
 pub mod MeetLaws
+pub mod MeetTurnLaws
