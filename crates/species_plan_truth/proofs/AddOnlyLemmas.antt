@@ -1,5 +1,5 @@
 -- Each reference of a nest to an array that the nest only adds to is an add, where `+=` on it counts as one.
-use Rattle.std.proofs.Common.{◌≡◌, ◌≢◌, refl, ap, sym, ◌∙◌, subst, arith, ℕ, zero, suc, ◌+◌, ◌-◌, Bool, true, false, ◌&&◌, ◌||◌, not, nat_eq, if◌then◌else◌, List, [], ◌∷◌, ◌++◌, map, flat_map, length, Option, Some, None}
+use Rattle.std.proofs.Common.{◌≡◌, ◌≢◌, refl, ap, sym, ◌∙◌, subst, arith, ℕ, zero, suc, ◌+◌, ◌-◌, Bool, true, false, ◌&&◌, not, nat_eq, if◌then◌else◌, List, [], ◌∷◌, ◌++◌, map, flat_map, Option, Some, None}
 use Rattle.std.specs.List.{Contains, list_any}
 use Rattle.std.proofs.lemmas.Bool.{and_parts, or_parts}
 use Rattle.std.proofs.lemmas.Bool.Decides.{nat_tests}
@@ -8,21 +8,19 @@ use Rattle.species_ast.specs.Accesses.{Access, Element, Reads, Writes, Adds}
 use Rattle.species_ast.specs.Operators.{is_signed}
 use Rattle.species_ast.specs.declared.tree.Array.{Array}
 use Rattle.species_ast.specs.declared.tree.Expr.{Expr}
-use Rattle.species_ast.specs.declared.tree.Kind.{Kind}
 use Rattle.species_ast.specs.declared.tree.Loop.{Loop, out-Loop, roll-Loop}
 use Rattle.species_ast.specs.declared.tree.Stmt.{Stmt}
 use Rattle.species_ast.specs.declared.tree.Stmt.TheVariants as stmt
 use Rattle.species_ast.specs.declared.tree.Stmt.TheOpen.{Loop-F}
-use Rattle.species_ast.specs.declared.tree.Unit.{Unit as Program}
 use Rattle.species_ast.specs.Scope.Forms.{form_of}
 use Rattle.species_ast.specs.Scope.Hulls.{Range, has_empty}
-use Rattle.species_ast.specs.Scope.References.{Where, Reference, reference, perhaps, placed, in_turn, Elements, no_elements, then_elements, on_condition, all_elements, element_with, elements_at, elements_of, subscripts, target_reference, value_references, addition_references, init_references, Referring, list_references, unless_empty, references_at, references_inside, stmt_references, references_of}
+use Rattle.species_ast.specs.Scope.References.{Where, Reference, reference, perhaps, placed, in_turn, Elements, then_elements, on_condition, all_elements, elements_at, elements_of, subscripts, target_reference, value_references, addition_references, init_references, Referring, list_references, unless_empty, references_at, references_inside, stmt_references, references_of}
 use Rattle.species_ast.proofs.Folds.{fold_expr-Elem, fold_expr-Unary, fold_expr-Binary, fold_expr-And, fold_expr-Or, fold_expr-Cond, fold_expr-Cast, fold_stmt-Assign, fold_stmt-AddTo, fold_stmt-Declare, fold_stmt-SetLocal, fold_stmt-If, fold_stmt-For, fold_stmt-Block, fold_loop, fold_loop-out}
 use Rattle.species_ast.proofs.Induction.{Each, each_all, expr_ind, stmt_ind}
 use Rattle.species_ast.proofs.Paras.{para_expr-Literal, para_expr-Iter, para_expr-Local, para_expr-Unary, para_expr-Binary, para_expr-And, para_expr-Or, para_expr-Cond, para_expr-Cast}
 use Rattle.species_ast.proofs.ReferenceLaws.{elements_of-Elem}
-use Rattle.species_gather.specs.Summed.{read_at, read_by, read_in, read_first, summed_in, used_at, used_by, used_in, is_summed, summed_from, summed_arrays}
-use Rattle.species_occurrences.specs.Made.{IsMadeBy, IsMadeAmong}
+use Rattle.species_gather.specs.Summed.{read_at, read_by, read_in, read_first, summed_in, used_at, used_by, used_in, is_summed, summed_from}
+use Rattle.species_occurrences.specs.Made.{IsMadeAmong}
 use Rattle.species_occurrences.proofs.NestLaws.{unconditional}
 use Rattle.species_occurrences.proofs.PositionLaws.{each_append}
 use Rattle.species_references.specs.References.{adds_of}

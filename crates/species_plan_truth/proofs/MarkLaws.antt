@@ -1,6 +1,6 @@
 -- What marks change in the references of a nest: nothing, where `+=` counts by its array. Where it counts as it is marked, the references are
 -- those in which what is marked counts.
-use Rattle.std.proofs.Common.{◌≡◌, refl, ap, sym, ◌∙◌, ℕ, ◌-◌, Bool, true, false, if◌then◌else◌, List, [], ◌∷◌, ◌++◌, map, length, None}
+use Rattle.std.proofs.Common.{◌≡◌, refl, ap, sym, ◌∙◌, ℕ, ◌-◌, Bool, true, false, List, [], ◌∷◌, ◌++◌, map, length, None}
 use Rattle.std.proofs.lemmas.Bool.{and_parts}
 use Rattle.species_ast.specs.Marks.{all_true}
 use Rattle.species_ast.specs.Strip.{strip_step, strip_layer, strip_stmt, strip_loop}
@@ -10,7 +10,7 @@ use Rattle.species_ast.specs.declared.tree.Mark.TheVariants.{Plain}
 use Rattle.species_ast.specs.declared.tree.Stmt.{Stmt, fold-Stmt, fold-roll-Stmt}
 use Rattle.species_ast.specs.declared.tree.Stmt.TheOpen.{Stmt-F, Loop-F}
 use Rattle.species_ast.specs.declared.tree.Stmt.TheVariants as stmt
-use Rattle.species_ast.specs.Scope.Hulls.{Range, range_of}
+use Rattle.species_ast.specs.Scope.Hulls.{Range}
 use Rattle.species_ast.specs.Scope.References.{Adding, Referring, perhaps, in_turn, elements_of, subscripts, addition_references, list_references, unless_empty, references_at, references_inside, stmt_references, loop_references, references_of}
 use Rattle.species_ast.proofs.Folds.{fold_stmt-Assign, fold_stmt-AddTo, fold_stmt-Declare, fold_stmt-SetLocal, fold_stmt-If, fold_stmt-For, fold_stmt-Block, fold_loop}
 use Rattle.species_ast.proofs.Induction.{Each, StmtCases, stmt_ind}

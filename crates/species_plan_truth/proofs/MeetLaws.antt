@@ -1,11 +1,10 @@
 -- Two iterations of the parallel loops of a nest do not meet, but to read an element or to add to a gathered array.
-use Rattle.std.proofs.Common.{◌≡◌, refl, ap, sym, ◌∙◌, subst, arith, ℕ, ◌+◌, ◌<◌, List, [], length, ◌⊎◌, inl, inr}
+use Rattle.std.proofs.Common.{◌≡◌, ap, ◌∙◌, subst, arith, ℕ, ◌+◌, List, [], length, inl, inr}
 use Rattle.std.specs.List.{Contains}
 use Rattle.species_ast.specs.Accesses.{Access, Element, Reads, Adds}
 use Rattle.species_ast.specs.Evaluation.{sizes_of}
 use Rattle.species_ast.specs.Run.{source_context}
-use Rattle.species_ast.specs.Strip.{strip_loop}
-use Rattle.species_ast.specs.declared.tree.Loop.{Loop, out-Loop}
+use Rattle.species_ast.specs.declared.tree.Loop.{Loop}
 use Rattle.species_ast.specs.declared.tree.Unit.{Unit as Program}
 use Rattle.species_ast.specs.Scope.Hulls.{Range}
 use Rattle.species_ast.specs.Scope.References.{Reference, references_of}
@@ -13,7 +12,7 @@ use Rattle.species_ast.specs.Scope.WellMade.{IsWellMade}
 use Rattle.species_classify.specs.Decisions.{IsDecision}
 use Rattle.species_classify.specs.Places.{StandsIn}
 use Rattle.species_classify.specs.declared.decide.Decision.{Decision}
-use Rattle.species_depend.specs.Law.{DifferInBand, IsMadeByOne}
+use Rattle.species_depend.specs.Law.{DifferInBand}
 use Rattle.species_depend.proofs.DependenceLaws.{free_bands_never_meet}
 use Rattle.species_occurrences.specs.Made.{IsMadeAmong}
 use Rattle.species_occurrences.specs.Regular.{as_marked}

@@ -1,11 +1,9 @@
 -- What a decision says of a nest: its leading loops carry no pair, but on gathered arrays, which the nest only adds to.
-use Rattle.std.proofs.Common.{◌≡◌, refl, ap, sym, ◌∙◌, subst, arith, ℕ, zero, suc, ◌+◌, ◌<◌, ◌≤◌, Bool, true, false, ◌&&◌, ◌||◌, nat_eq, nat_le, List, [], ◌∷◌, map, length, ◌⊎◌, inl, inr}
+use Rattle.std.proofs.Common.{◌≡◌, refl, ap, sym, subst, arith, ℕ, zero, suc, ◌+◌, ◌<◌, ◌≤◌, Bool, true, false, ◌||◌, nat_eq, nat_le, List, [], ◌∷◌, map, length, ◌⊎◌, inl, inr}
 use Rattle.std.specs.Prelude.{slice_index_or}
 use Rattle.std.specs.List.{Contains, list_any}
 use Rattle.std.proofs.lemmas.Bool.{and_parts, cases_eq}
 use Rattle.std.proofs.lemmas.Bool.Decides.{nat_tests}
-use Rattle.species_arcs.specs.declared.plans.Mode.TheVariants.{Plain, Shared}
-use Rattle.species_arcs.specs.declared.plans.Reason.TheVariants as reason
 use Rattle.species_arcs.specs.Pairwise.{Pairwise}
 use Rattle.species_ast.specs.Accesses.{Access}
 use Rattle.species_ast.specs.Evaluation.{sizes_of}
@@ -17,7 +15,7 @@ use Rattle.species_ast.specs.Scope.Nests.{Bounds, front_of}
 use Rattle.species_ast.specs.Scope.References as text
 use Rattle.species_ast.specs.Scope.WellMade.{IsWellMade}
 use Rattle.species_classify.specs.Bands.{IsBandOf}
-use Rattle.species_classify.specs.Decisions.{sequential, parallel, IsSharedDecision, IsPlainDecision, IsDecisionWith, IsDecision}
+use Rattle.species_classify.specs.Decisions.{IsSharedDecision, IsPlainDecision, IsDecisionWith, IsDecision}
 use Rattle.species_classify.specs.Places.{StandsIn, ArePlain}
 use Rattle.species_classify.specs.declared.bands.Band.{Band}
 use Rattle.species_classify.specs.declared.bands.Band.TheVariants.{Free, Carried}
