@@ -44,6 +44,15 @@ found c [] h = absurd (omega (arith, h.1))
 found c (x ∷ xs) (zero, below, same) = let test : nat_eq c x ≡ true = grind (arith, nat_tests, same) in rw test refl
 found c (x ∷ xs) (suc k, below, same) = or_right (nat_eq c x) (list_any (nat_eq c) xs) (found c xs (k, omega (arith, below), same))
 
+-- and what it finds, the list has
+pub listed : (c : ℕ) (xs : List ℕ) → list_any (nat_eq c) xs ≡ true → Contains xs c
+listed c [] h = absurd cc
+listed c (x ∷ xs) h = go (listed c xs) (nat_eq c x) refl h
+  where
+    go : (list_any (nat_eq c) xs ≡ true → Contains xs c) → (t : Bool) → nat_eq c x ≡ t → (t || list_any (nat_eq c) xs) ≡ true → Contains (x ∷ xs) c
+    go rest true is k = let same : x ≡ c = grind (arith, nat_tests, is) in (0, omega arith, same)
+    go rest false is k = let one = rest k in (suc one.0, omega (arith, one.1), one.2)
+
 pub has_or_not : (c : ℕ) (xs : List ℕ) → Contains xs c ⊎ ¬ Contains xs c
 has_or_not c [] = inr (λ h. omega (arith, h.1))
 has_or_not c (x ∷ xs) = elim (cases_eq x c) [
