@@ -1,10 +1,11 @@
 -- References of one nest share the loops of its front, so each two may be tested at each of its levels.
-use Rattle.std.proofs.Common.{◌≡◌, ◌≢◌, refl, ap, sym, ◌∙◌, subst, arith, ℕ, zero, suc, ◌+◌, ◌<◌, ◌≤◌, ◌^◌, Bool, true, false, nat_eq, nat_lt, if◌then◌else◌, List, [], ◌∷◌, ◌++◌, map, length, length-append, length-map, pos, ℤ, Option, Some, None, All, ◌⊎◌, inl, inr}
+use Rattle.std.proofs.Common.{◌≡◌, ◌≢◌, refl, ap, sym, ◌∙◌, subst, arith, ℕ, zero, suc, ◌+◌, ◌<◌, ◌≤◌, ◌^◌, Bool, true, false, nat_eq, if◌then◌else◌, List, [], ◌∷◌, ◌++◌, length, length-append, pos, ℤ, Option, Some, None, All, inl, inr}
+use Rattle.std.proofs.lemmas.List.{length-map}
 use Rattle.std.specs.Int.RustNames.{unsigned_abs}
 use Rattle.std.proofs.lemmas.Bool.{cases_lt}
 use Rattle.std.proofs.lemmas.Bool.Decides.{nat_tests}
 use Rattle.species_affine.specs.Limited.{IsWithin}
-use Rattle.species_affine.specs.Subscript.{IsSameForm, IsSubscript, HasFormNumbers}
+use Rattle.species_affine.specs.Subscript.{IsSubscript, HasFormNumbers}
 use Rattle.species_affine.specs.declared.subscript.Subscript.{Subscript}
 use Rattle.species_affine.specs.declared.subscript.Subscript.TheVariants.{Affine, Other}
 use Rattle.species_arcs.specs.Pairwise.{Pairwise}
@@ -19,7 +20,7 @@ use Rattle.species_ast.specs.Scope.WellMade.{IsWellMade}
 use Rattle.species_ast.proofs.Induction.{Each}
 use Rattle.species_depend.specs.Carried.{AreAsked}
 use Rattle.species_depend.specs.Refuted.{IsSubscriptOver}
-use Rattle.species_linear.specs.Box.{HasSmallEnds, HasSteps}
+use Rattle.species_linear.specs.Box.{HasSmallEnds}
 use Rattle.species_linear.specs.Point.{IsShort}
 use Rattle.species_linear.specs.Rising.{IsRisingFrom}
 use Rattle.species_linear.specs.Value.{coefficient_at}
@@ -27,8 +28,8 @@ use Rattle.species_linear.specs.declared.forms.Term.{Term}
 use Rattle.species_occurrences.proofs.PositionLaws.{each_weaker}
 use Rattle.species_references.specs.References.{adds_of, IsReference}
 use Rattle.species_references.proofs.TurnLaws.{each_to_all}
-use Rattle.species_classify.specs.Places.{StandsIn, ArePlain}
-use Rattle.species_classify.proofs.FrontLemmas.{SharesFront, nest_front}
+use Rattle.species_classify.specs.Places.{StandsIn}
+use Rattle.species_classify.proofs.FrontLemmas.{nest_front}
 use Rattle.species_classify.proofs.PlaceLemmas.{IsOverLevels, IsPlaced, standing_placed}
 use Rattle.species_classify.proofs.SoundLemmas.{IsSound}
 use Rattle.std.specs.Prelude.{slice_index_or}

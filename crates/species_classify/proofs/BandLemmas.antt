@@ -1,6 +1,6 @@
 -- A loop of a well made unit, wherever it stands, is a band by itself.
-use Rattle.std.proofs.Common.{◌≡◌, refl, ap, sym, ◌∙◌, subst, arith, ℕ, zero, suc, ◌+◌, ◌<◌, ◌≤◌, Bool, true, false, ◌&&◌, ◌||◌, not, nat_le, nat_lt, List, [], ◌∷◌, ◌++◌, map, length}
-use Rattle.std.specs.List.{list_all, list_any}
+use Rattle.std.proofs.Common.{◌≡◌, refl, ap, sym, ◌∙◌, subst, arith, ℕ, suc, ◌<◌, ◌≤◌, Bool, true, false, ◌&&◌, ◌||◌, not, nat_le, nat_lt, List, [], ◌∷◌, ◌++◌, map, length, take}
+use Rattle.std.specs.List.{list_all}
 use Rattle.std.specs.Prelude.{is_some}
 use Rattle.std.proofs.lemmas.Bool.{and_parts}
 use Rattle.std.proofs.lemmas.Bool.Decides.{nat_tests}
@@ -11,9 +11,9 @@ use Rattle.species_ast.specs.declared.tree.Unit.{Unit as Program}
 use Rattle.species_ast.specs.Scope.Forms.{form_of, iterators_in}
 use Rattle.species_ast.specs.Scope.Hulls.{Range}
 use Rattle.species_ast.specs.Scope.Limits.{goes}
-use Rattle.species_ast.specs.Scope.Nests.{Bounds, front_step, front_layer, front_of, named_in}
+use Rattle.species_ast.specs.Scope.Nests.{Bounds, front_step, front_layer, front_of, named_in, only_loops}
 use Rattle.species_ast.specs.Scope.WellMade.{Around, Made, made, made_at, made_loop, list_holds, is_made_bound, head_holds, has_depth, IsWellMade}
-use Rattle.species_ast.proofs.Folds.{fold_stmt-For, fold_loop-out}
+use Rattle.species_ast.proofs.Folds.{fold_stmt-For, fold_loop-out, folded_layer}
 use Rattle.species_loops.specs.Bands.{is_of_band, names_band, is_band, IsLongestBand}
 use Rattle.species_classify.specs.Places.{StandsIn}
 use Rattle.species_classify.proofs.StandLemmas.{stands_well}
@@ -46,13 +46,19 @@ none_named level (i ∷ is) h =
     let test : is_of_band level 1 i ≡ false = grind (arith, nat_tests, parts.0) in
     rw test (none_named level is parts.1)
 
+or_false : (a b : Bool) → (a || b) ≡ false → (a ≡ false) × (b ≡ false)
+or_false true b h = absurd cc
+or_false false b h = (refl, h)
+
 both_named : (level : ℕ) (is js : List ℕ) → names_band level 1 is ≡ false → names_band level 1 js ≡ false → names_band level 1 (is ++ js) ≡ false
 both_named level [] js h k = k
-both_named level (i ∷ is) js h k = go (is_of_band level 1 i) refl h
-  where
-    go : (t : Bool) → is_of_band level 1 i ≡ t → (t || names_band level 1 is) ≡ false → names_band level 1 ((i ∷ is) ++ js) ≡ false
-    go true e g = absurd cc
-    go false e g = rw e (both_named level is js g k)
+both_named level (i ∷ is) js h k = let parts = or_false (is_of_band level 1 i) (names_band level 1 is) h in rw parts.0 (both_named level is js parts.1 k)
+
+band_one : (level : ℕ) (b : Bounds) (rest : List Bounds) → names_band level 1 (iterators_in b.start ++ iterators_in b.limit) ≡ false → is_band level (b ∷ rest) 1 ≡ true
+band_one level b rest h =
+    let long : nat_le 1 (length (b ∷ rest)) ≡ true = grind (arith, nat_tests) in
+    ap (λ t. t && not (names_band level 1 (named_in (take 1 (b ∷ rest))))) long
+    ∙ ap not (ap (names_band level 1) (append-nil (iterators_in b.start ++ iterators_in b.limit)) ∙ h)
 
 -- a loop that names only iterators of the loops around it is a band by itself
 pub band_of_one : (head : Loop) (level : ℕ) → HoldsHead head level → is_band level (front_of head) 1 ≡ true
@@ -61,9 +67,8 @@ band_of_one head level holds =
     let b : Bounds = record { start = l.start; limit = l.limit } in
     let start = none_named level (iterators_in l.start) (and_parts (is_some (form_of l.start)) _ holds.start).1 in
     let limit = none_named level (iterators_in l.limit) (and_parts (is_some (form_of l.limit)) _ holds.limit).1 in
-    let named : names_band level 1 (named_in (b ∷ [])) ≡ false =
-    ap (names_band level 1) (append-nil (iterators_in l.start ++ iterators_in l.limit)) ∙ both_named level (iterators_in l.start) (iterators_in l.limit) start limit in
-    ap (λ (bs : List Bounds). is_band level bs 1) (fold_loop-out front_step front_layer head) ∙ ap not named
+    ap (λ (bs : List Bounds). is_band level bs 1) (fold_loop-out front_step front_layer head)
+    ∙ band_one level b (only_loops (folded_layer front_step front_layer l).body) (both_named level (iterators_in l.start) (iterators_in l.limit) start limit)
 
 -- so the longest band that begins with a loop of a unit has one
 pub some_band : (u : Program) (head : Loop) (path : List Range) (n : ℕ) → IsWellMade u → StandsIn u head path → IsLongestBand (length path) (front_of head) n → 0 < n

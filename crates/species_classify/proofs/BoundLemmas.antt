@@ -1,5 +1,5 @@
 -- The bounds of the loops of a band, loop by loop.
-use Rattle.std.proofs.Common.{◌≡◌, refl, ap, sym, ◌∙◌, subst, arith, ℕ, zero, suc, ◌+◌, ◌<◌, ◌≤◌, Bool, true, false, ◌&&◌, not, nat_lt, List, [], ◌∷◌, ◌++◌, map, length, append_assoc, append-nil, Option, Some, None}
+use Rattle.std.proofs.Common.{◌≡◌, refl, ap, sym, ◌∙◌, subst, arith, ℕ, zero, suc, ◌-◌, ◌<◌, ◌≤◌, Bool, true, false, ◌&&◌, not, nat_lt, List, [], ◌∷◌, ◌++◌, map, length, append_assoc, append-nil, get_or, Option, Some, None, All}
 use Rattle.std.proofs.lemmas.Bool.{and_parts}
 use Rattle.std.proofs.lemmas.Bool.Decides.{nat_tests}
 use Rattle.species_arcs.specs.Pairwise.{Pairwise}
@@ -12,7 +12,11 @@ use Rattle.species_ast.specs.Scope.Nests.{Bounds, only_loops, front_step, front_
 use Rattle.species_ast.proofs.Folds.{fold_stmt-Assign, fold_stmt-AddTo, fold_stmt-Declare, fold_stmt-SetLocal, fold_stmt-If, fold_stmt-For, fold_stmt-Block, fold_loop, fold_loop-out}
 use Rattle.species_ast.proofs.Induction.{Each, each_all, stmt_ind}
 use Rattle.species_ast.proofs.Paras.{para_stmt-Assign, para_stmt-AddTo, para_stmt-Declare, para_stmt-SetLocal, para_stmt-If}
+use Rattle.species_linear.specs.declared.loops.LoopRange.{LoopRange}
+use Rattle.species_loops.specs.declared.header.Header.{Header}
 use Rattle.species_loops.specs.Bands.{front_in}
+use Rattle.species_loops.specs.Headers.{header_of, range_in}
+use Rattle.species_loops.specs.Ranges.{range_seen, ranges_seen}
 use Rattle.species_merge.specs.declared.bands.BandBound.{BandBound}
 use Rattle.species_merge.specs.Bounds.{IsBoundOf}
 use Rattle.species_nests.specs.Nests.{Placed, sole_at, sole, only, nest_in, nest_of}
@@ -50,6 +54,17 @@ pub fits_block : (x : Stmt) (body : List Stmt) (path : List Range) → x ≡ stm
 fits_block x body path is h = sym (ap (λ z. fits_in z path) is ∙ ap (λ k. k path) (fold_stmt-Block fits_at fits_within body)) ∙ h
 
 -- ---- one loop more
+
+-- the range that a header gives is that of its loop
+pub range_is : (head : Loop) (h : Header) (r : LoopRange) (seen : List LoopRange) (path : List Range) → range_seen r ≡ range_in (ranges_seen seen) h → ranges_seen seen ≡ path → h ≡ header_of (out-Loop head)
+    → range_seen r ≡ range_of path (out-Loop head)
+range_is head h r seen path value same is = value ∙ ap (λ p. range_in p h) same ∙ ap (range_in path) is
+
+pub all_more : {X : Type 0} (P : X → Type 0) (xs : List X) (y : X) → All P xs → P y → All P (xs ++ y ∷ [])
+all_more P [] y h p zero d l = p
+all_more P [] y h p (suc k) d l = absurd (omega (arith, l))
+all_more P (x ∷ xs) y h p zero d l = h 0 d (omega arith)
+all_more P (x ∷ xs) y h p (suc k) d l = all_more P xs y (λ j e m. h (suc j) e (omega (arith, m))) p k d (omega (arith, l))
 
 pub add_none : (old : List BandBound) (loops : List Placed) → loops ≡ [] → AddsBounds old old loops
 add_none old loops none = subst (AddsBounds old old) (sym none) ([], sym (append-nil old), tt)
@@ -144,6 +159,20 @@ other_bounds depth x at old none = add_none old (nest_in depth (x ∷ []) at).lo
 pub only_bounds : (depth : ℕ) (xs : List Stmt) (x : Stmt) (path : List Range) (at : List ℕ) (old new : List BandBound) → xs ≡ x ∷ []
     → (fits_in x path ≡ true → (here : List ℕ) → AddsBounds old new (nest_in depth (x ∷ []) here).loops) → fits_in_list xs path ≡ true → AddsBounds old new (nest_in depth xs at).loops
 only_bounds depth xs x path at old new is f h = subst (λ l. AddsBounds old new (nest_in depth l at).loops) (sym is) (f (fits_only xs x path is h) at)
+
+pub no_bounds : (depth : ℕ) (xs : List Stmt) (at : List ℕ) (old : List BandBound) → length xs < 1 → AddsBounds old old (nest_in depth xs at).loops
+no_bounds depth [] at old none = add_none old (nest_in depth [] at).loops (nest_empty depth [] at refl)
+no_bounds depth (x ∷ xs) at old none = absurd (omega (arith, none))
+
+pub several_bounds : (depth : ℕ) (xs : List Stmt) (at : List ℕ) (old : List BandBound) → 2 ≤ length xs → AddsBounds old old (nest_in depth xs at).loops
+several_bounds depth [] at old few = absurd (omega (arith, few))
+several_bounds depth (x ∷ []) at old few = absurd (omega (arith, few))
+several_bounds depth (x ∷ y ∷ more) at old few = add_none old (nest_in depth (x ∷ y ∷ more) at).loops (nest_several depth (x ∷ y ∷ more) x y more at refl)
+
+pub one_is : (xs : List Stmt) (x : Stmt) → 1 ≤ length xs → length xs < 2 → x ≡ get_or xs 0 x → xs ≡ x ∷ []
+one_is [] x some few is = absurd (omega (arith, some))
+one_is (y ∷ []) x some few is = ap (λ z. z ∷ []) (sym is)
+one_is (y ∷ z ∷ xs) x some few is = absurd (omega (arith, few))
 
 -- ---- as many loops as the front has
 

@@ -1,6 +1,7 @@
 -- The form of an expression of a well made unit names iterators of the loops around it alone, and its constant is within the limit.
-use Rattle.std.proofs.Common.{◌≡◌, refl, ap, sym, ◌∙◌, subst, arith, ℕ, zero, suc, ◌<◌, ◌≤◌, Bool, true, false, ◌&&◌, if◌then◌else◌, nat_lt, List, [], ◌∷◌, map, length, length-map, ℤ, pos, neg_ℤ, ◌*ℤ◌, Option, Some, None}
-use Rattle.std.specs.Prelude.{option_and_then, unsigned_abs}
+use Rattle.std.proofs.Common.{◌≡◌, refl, ap, sym, ◌∙◌, subst, arith, ℕ, zero, suc, ◌<◌, ◌≤◌, Bool, true, false, ◌&&◌, if◌then◌else◌, nat_lt, List, [], ◌∷◌, length, ℤ, neg_ℤ, ◌*ℤ◌, Option, Some, None}
+use Rattle.std.proofs.lemmas.List.{length-map}
+use Rattle.std.specs.Prelude.{unsigned_abs}
 use Rattle.std.specs.List.{list_all}
 use Rattle.std.proofs.lemmas.Bool.{and_parts}
 use Rattle.std.proofs.lemmas.Bool.Decides.{nat_tests}
@@ -81,11 +82,11 @@ unary_over n Not o a h = none_over n a None refl
 unary_over n LogNot o a h = none_over n a None refl
 
 binary_over : (n : ℕ) (op : Binary) (o p : Option Form) (a b : Bool) → AreOver n a o → AreOver n b p → AreOver n (a && b) (form_step (Expr-F.Binary op o p))
-binary_over n Add o p a b = of_both_over n (λ f g. limited (sum_form f g)) o p a b
-    (λ g h f is few more. limited_over n (a && b) (sum_form g h) f is (λ t. added_length g.coefficients h.coefficients n (few t) (more t)))
-binary_over n Sub o p a b = of_both_over n (λ f g. limited (sum_form f (negated g))) o p a b
-    (λ g h f is few more. limited_over n (a && b) (sum_form g (negated h)) f is (λ t. added_length g.coefficients (negated h).coefficients n (few t) (negated_few n h (more t))))
-binary_over n Mul o p a b = of_both_over n product_form o p a b (product_over n (a && b))
+binary_over n Add o p a b h k = of_both_over n (λ f g. limited (sum_form f g)) o p a b
+    (λ g g' f is few more. limited_over n (a && b) (sum_form g g') f is (λ t. added_length g.coefficients g'.coefficients n (few t) (more t))) h k
+binary_over n Sub o p a b h k = of_both_over n (λ f g. limited (sum_form f (negated g))) o p a b
+    (λ g g' f is few more. limited_over n (a && b) (sum_form g (negated g')) f is (λ t. added_length g.coefficients (negated g').coefficients n (few t) (negated_few n g' (more t)))) h k
+binary_over n Mul o p a b h k = of_both_over n product_form o p a b (product_over n (a && b)) h k
 binary_over n Div o p a b h k = none_over n (a && b) None refl
 binary_over n Rem o p a b h k = none_over n (a && b) None refl
 binary_over n Shl o p a b h k = none_over n (a && b) None refl

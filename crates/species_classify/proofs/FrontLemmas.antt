@@ -1,5 +1,5 @@
 -- The references of a nest stand in the loops that are perfectly nested there, so that each two may be tested at each of their levels.
-use Rattle.std.proofs.Common.{◌≡◌, refl, ap, sym, ◌∙◌, subst, arith, ℕ, zero, suc, ◌+◌, ◌-◌, ◌<◌, ◌≤◌, Bool, true, false, if◌then◌else◌, List, [], ◌∷◌, ◌++◌, map, length, Option, Some, None, append_assoc}
+use Rattle.std.proofs.Common.{◌≡◌, refl, sym, ◌∙◌, subst, arith, ℕ, zero, suc, ◌-◌, ◌≤◌, Bool, true, false, if◌then◌else◌, List, [], ◌∷◌, ◌++◌, map, length, Option, Some, None, append_assoc}
 use Rattle.species_ast.specs.declared.tree.Expr.{Expr}
 use Rattle.species_ast.specs.declared.tree.Stmt.{Stmt, fold-Stmt}
 use Rattle.species_ast.specs.declared.tree.Stmt.TheOpen.{Loop-F}
@@ -7,7 +7,7 @@ use Rattle.species_ast.specs.declared.tree.Stmt.TheVariants as stmt
 use Rattle.species_ast.specs.declared.tree.Loop.{Loop, roll-Loop}
 use Rattle.species_ast.specs.Scope.Hulls.{Range, range_of, has_empty}
 use Rattle.species_ast.specs.Scope.Nests.{Bounds, only_loops, front_step, front_layer, front_of}
-use Rattle.species_ast.specs.Scope.References.{Where, Reference, perhaps, elements_of, subscripts, target_reference, value_references, addition_references, init_references, Referring, placed, list_references, references_at, unless_empty, in_turn, references_inside, Adding, stmt_references, loop_references, references_of}
+use Rattle.species_ast.specs.Scope.References.{Where, Reference, perhaps, elements_of, subscripts, value_references, addition_references, init_references, Referring, placed, list_references, references_at, unless_empty, in_turn, references_inside, Adding, stmt_references, references_of}
 use Rattle.species_ast.proofs.Induction.{Each, each_all, stmt_ind}
 use Rattle.species_ast.proofs.Folds.{fold_stmt-Assign, fold_stmt-AddTo, fold_stmt-Declare, fold_stmt-SetLocal, fold_stmt-If, fold_stmt-For, fold_stmt-Block, fold_loop}
 use Rattle.species_occurrences.specs.Made.{Begins}

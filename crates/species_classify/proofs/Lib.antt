@@ -1,10 +1,15 @@
 mod DepthLemmas
+mod ReasonLemmas
 mod LocalLemmas
 mod FrontLemmas
-mod AskedLemmas
+pub mod AskedLemmas
 mod FormLemmas
 mod SoundLemmas
 mod StandLemmas
 mod BandLemmas
 mod PlaceLemmas
 mod BoundLemmas
+mod CountLemmas
+mod MergeLemmas
+mod DecisionLemmas
+mod ArcLemmas

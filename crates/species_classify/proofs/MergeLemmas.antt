@@ -6,9 +6,8 @@ use Rattle.species_ast.specs.declared.tree.Unit.{Unit as Program}
 use Rattle.species_ast.specs.Evaluation.{sizes_of}
 use Rattle.species_ast.specs.Run.{source_context}
 use Rattle.species_ast.specs.Scope.Hulls.{Range}
-use Rattle.species_ast.specs.Scope.References.{Adding, Reference, references_of}
+use Rattle.species_ast.specs.Scope.References.{Adding, references_of}
 use Rattle.species_ast.specs.Scope.WellMade.{IsWellMade}
-use Rattle.species_ast.proofs.Induction.{Each}
 use Rattle.species_merge.specs.Sizes.{IsMergeable}
 use Rattle.species_occurrences.proofs.PositionLaws.{each_weaker}
 use Rattle.species_ranges.proofs.BoundedLaws.{IsBounded}

@@ -2,10 +2,10 @@
 -- each of its dimensions, whose forms name iterators of the loops around it alone; and the ranges of these loops are few and small.
 use Rattle.std.proofs.Common.{◌≡◌, refl, ap, sym, ◌∙◌, subst, arith, ℕ, zero, suc, ◌+◌, ◌-◌, ◌*◌, ◌<◌, ◌≤◌, Bool, true, false, ◌&&◌, ◌||◌, not, nat_eq, nat_le, if◌then◌else◌, List, [], ◌∷◌, ◌++◌, map, length, drop, Option, Some, None, ◌⊎◌, inl, inr}
 use Rattle.std.specs.Prelude.{slice_get, unwrap_or, option_map}
-use Rattle.std.specs.List.{Contains, list_all, flat_map}
+use Rattle.std.specs.List.{list_all}
 use Rattle.std.proofs.lemmas.Bool.{and_parts}
 use Rattle.std.proofs.lemmas.Bool.Decides.{nat_tests}
-use Rattle.std.proofs.lemmas.List.{length-map, length-append}
+use Rattle.std.proofs.lemmas.List.{length-map}
 use Rattle.std.proofs.lemmas.Nat.{mul-le}
 use Rattle.species_ast.specs.declared.tree.Array.{Array}
 use Rattle.species_ast.specs.declared.tree.Expr.{Expr}
@@ -15,20 +15,18 @@ use Rattle.species_ast.specs.declared.tree.Stmt.TheOpen.{Loop-F}
 use Rattle.species_ast.specs.declared.tree.Stmt.TheVariants as stmt
 use Rattle.species_ast.specs.declared.tree.Unit.{Unit as Program}
 use Rattle.species_ast.specs.Accesses.{Direction, Reads, Writes, Adds}
-use Rattle.species_ast.specs.Evaluation.{product, sizes_of}
+use Rattle.species_ast.specs.Evaluation.{product}
 use Rattle.species_ast.specs.Marks.{all_true}
-use Rattle.species_ast.specs.Run.{source_context}
 use Rattle.species_ast.specs.Scope.Forms.{Form, form_of}
 use Rattle.species_ast.specs.Scope.Hulls.{Range, is_empty, has_empty, range_of, passes_hull}
 use Rattle.species_ast.specs.Scope.Limits.{is_too_deep, has_lawful_sizes, has_too_many_dimensions}
-use Rattle.species_ast.specs.Scope.Loops.{Nesting, no_loops, entered, outermost_at, outermost_in, outermost_loops}
-use Rattle.species_ast.specs.Scope.References.{Where, Reference, reference, perhaps, placed, in_turn, Elements, no_elements, then_elements, on_condition, all_elements, element_with, elements_at, elements_of, subscripts, target_reference, value_references, addition_references, init_references, Adding, Referring, list_references, references_at, references_inside, stmt_references, references_of, unless_empty}
-use Rattle.species_ast.specs.Scope.WellMade.{Around, is_array, is_made_at, is_made, is_made_target, Made, list_holds, list_keeps, fronts_of, init_holds, head_holds, made_at, made_loop, made, is_made_array, outermost, IsWellMade}
-use Rattle.species_ast.specs.Scope.Nests.{front_with}
+use Rattle.species_ast.specs.Scope.Loops.{Nesting, entered}
+use Rattle.species_ast.specs.Scope.References.{Where, Reference, perhaps, placed, in_turn, Elements, no_elements, then_elements, on_condition, all_elements, element_with, elements_at, elements_of, subscripts, target_reference, value_references, addition_references, init_references, Adding, Referring, list_references, references_at, references_inside, stmt_references, references_of, unless_empty}
+use Rattle.species_ast.specs.Scope.WellMade.{Around, is_array, is_made_at, is_made, is_made_target, Made, list_holds, list_keeps, init_holds, head_holds, made_at, made_loop, made, is_made_array, IsWellMade}
 use Rattle.species_ast.specs.Scope.Meanings.{is_among}
 use Rattle.species_ast.proofs.Folds.{fold_expr-Elem, fold_expr-Unary, fold_expr-Binary, fold_expr-And, fold_expr-Or, fold_expr-Cond, fold_expr-Cast, fold_stmt-Assign, fold_stmt-AddTo, fold_stmt-Declare, fold_stmt-SetLocal, fold_stmt-If, fold_stmt-For, fold_stmt-Block, fold_loop}
 use Rattle.species_ast.proofs.Induction.{Each, each_all, expr_ind, stmt_ind}
-use Rattle.species_ast.proofs.Paras.{para_expr-Literal, para_expr-Iter, para_expr-Local, para_expr-Unary, para_expr-Binary, para_expr-And, para_expr-Or, para_expr-Cond, para_expr-Cast, para_stmt-Assign, para_stmt-AddTo, para_stmt-Declare, para_stmt-SetLocal}
+use Rattle.species_ast.proofs.Paras.{para_expr-Literal, para_expr-Iter, para_expr-Local, para_expr-Unary, para_expr-Binary, para_expr-And, para_expr-Or, para_expr-Cond, para_expr-Cast}
 use Rattle.species_ast.proofs.ReferenceLaws.{elements_of-Elem}
 use Rattle.species_occurrences.proofs.PositionLaws.{each_append, each_weaker}
 use Rattle.species_ranges.proofs.BoundedLaws.{IsSize, HasSizes, IsBounded}
@@ -36,7 +34,7 @@ use Rattle.species_ranges.proofs.KeepLaws.{KeepsHead, keeps_head}
 use Rattle.species_ranges.proofs.SmallLaws.{IsSmallRange, small_range}
 use Rattle.species_classify.proofs.FormLemmas.{form_over}
 use Rattle.species_classify.proofs.SoundLemmas.{IsSound, sound_head}
-use Rattle.species_classify.proofs.StandLemmas.{StandsWell, stands_well}
+use Rattle.species_classify.proofs.StandLemmas.{stands_well}
 use Rattle.species_classify.specs.Places.{StandsIn}
 
 -- ---- what is known of a reference

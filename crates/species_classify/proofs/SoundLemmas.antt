@@ -1,10 +1,9 @@
 -- The range of a loop of a well made unit has small ends and a step, also where the loops around it have no turns.
-use Rattle.std.proofs.Common.{◌≡◌, ◌≢◌, refl, ap, sym, ◌∙◌, subst, arith, ℕ, zero, suc, ◌+◌, ◌*◌, ◌/◌, ◌<◌, ◌≤◌, ◌^◌, Bool, true, false, ◌&&◌, not, if◌then◌else◌, List, [], ◌∷◌, ℤ, pos, negsuc, ◌+ℤ◌, ◌-ℤ◌, ◌*ℤ◌, Option, Some, None}
-use Rattle.std.specs.Prelude.{int_le, is_some}
+use Rattle.std.proofs.Common.{◌≡◌, ◌≢◌, refl, ap, sym, ◌∙◌, arith, ℕ, zero, suc, ◌*◌, ◌/◌, ◌≤◌, ◌^◌, Bool, true, false, ◌&&◌, if◌then◌else◌, List, ℤ, pos, negsuc, ◌-ℤ◌, ◌*ℤ◌, Option, Some, None}
+use Rattle.std.specs.Prelude.{int_le}
 use Rattle.std.specs.Int.RustNames.{unsigned_abs}
-use Rattle.std.specs.List.{list_all}
 use Rattle.std.proofs.lemmas.Bool.{and_parts}
-use Rattle.std.proofs.lemmas.Int.{ints, unsigned_abs-mul}
+use Rattle.std.proofs.lemmas.Int.{unsigned_abs-mul}
 use Rattle.species_integers.proofs.Sizes.{abs_sum, abs_difference}
 use Rattle.species_ast.specs.declared.tree.Expr.{Expr}
 use Rattle.species_ast.specs.declared.tree.Loop.{Loop}
@@ -18,7 +17,7 @@ use Rattle.species_ast.specs.Scope.Limits.{goes, is_too_far}
 use Rattle.species_ast.specs.Scope.Loops.{Nesting}
 use Rattle.species_ast.specs.Scope.WellMade.{Around, is_made_bound, has_depth, head_holds}
 use Rattle.species_ranges.proofs.KeepLaws.{KeepsHead}
-use Rattle.species_ranges.proofs.SmallLaws.{IsSmallRange, small_range}
+use Rattle.species_ranges.proofs.SmallLaws.{small_range}
 use Rattle.species_classify.proofs.FormLemmas.{form_constant}
 
 -- both ends are at most 2^40 in size, and there is a step

@@ -1,11 +1,8 @@
 -- Loops where they stand in a well made unit: what they name is there, they keep the limits, and the ranges of the loops around them are
 -- few and small.
-use Rattle.std.proofs.Common.{◌≡◌, refl, ap, sym, ◌∙◌, subst, arith, ℕ, zero, suc, ◌+◌, ◌<◌, ◌≤◌, Bool, true, false, ◌&&◌, not, nat_le, nat_lt, List, [], ◌∷◌, ◌++◌, map, length, length-append}
-use Rattle.std.specs.List.{Contains}
+use Rattle.std.proofs.Common.{◌≡◌, refl, ap, sym, ◌∙◌, subst, arith, ℕ, suc, ◌+◌, ◌<◌, ◌≤◌, Bool, true, false, ◌&&◌, not, List, [], ◌∷◌, ◌++◌, map, length, length-append}
 use Rattle.std.proofs.lemmas.Bool.{and_parts}
 use Rattle.std.proofs.lemmas.Bool.Decides.{nat_tests}
-use Rattle.species_ast.specs.declared.tree.Array.{Array}
-use Rattle.species_ast.specs.declared.tree.Expr.{Expr}
 use Rattle.species_ast.specs.declared.tree.Stmt.{Stmt}
 use Rattle.species_ast.specs.declared.tree.Stmt.TheOpen.{Loop-F}
 use Rattle.species_ast.specs.declared.tree.Stmt.TheVariants as stmt
@@ -14,13 +11,15 @@ use Rattle.species_ast.specs.declared.tree.Unit.{Unit as Program}
 use Rattle.species_ast.specs.Scope.Hulls.{Range, range_of}
 use Rattle.species_ast.specs.Scope.Limits.{is_too_deep}
 use Rattle.species_ast.specs.Scope.Loops.{Nesting, entered, Standing, numbered, standing_in, PlacedLoop, Placing, list_loops, loops_in, outside_loops, placed_loops}
-use Rattle.species_ast.specs.Scope.Nests.{front_with}
+use Rattle.species_ast.specs.Scope.Nests.{Bounds, front_with, only_loops, front_step, front_layer, front_of}
 use Rattle.species_ast.specs.Scope.WellMade.{Around, Made, made, made_at, made_loop, list_holds, list_keeps, is_made, fronts_of, head_holds, head_keeps, outermost, IsWellMade}
-use Rattle.species_ast.proofs.Folds.{fold_stmt-If, fold_stmt-For, fold_stmt-Block, fold_loop, fold_loop-out}
+use Rattle.species_ast.proofs.Folds.{fold_stmt-Assign, fold_stmt-AddTo, fold_stmt-Declare, fold_stmt-SetLocal, fold_stmt-If, fold_stmt-For, fold_stmt-Block, fold_loop, fold_loop-out}
 use Rattle.species_ast.proofs.Induction.{Each, each_all, stmt_ind}
-use Rattle.species_occurrences.proofs.DepthLaws.{each_contains}
 use Rattle.species_occurrences.proofs.PositionLaws.{each_append, loops_in-Assign, loops_in-AddTo, loops_in-Declare, loops_in-SetLocal, loops_in-If, loops_in-For, loops_in-Block}
-use Rattle.species_ranges.proofs.KeepLaws.{keeps_head}
+use Rattle.species_loops.specs.Bands.{front_in}
+use Rattle.species_ranges.specs.Fitting.{fits_at, fits_within, fits_in, fits_in_loop}
+use Rattle.species_ranges.proofs.KeepLaws.{keeps_head, keeps_fits}
+use Rattle.species_ranges.proofs.OutermostLaws.{each_contains}
 use Rattle.species_classify.specs.Places.{StandsIn}
 use Rattle.species_classify.proofs.SoundLemmas.{IsSound, sound_head}
 
@@ -147,3 +146,49 @@ stands_well u head path well stands =
       holds = subst (λ (l : Loop). (made (stmt.For l)).holds there.around ≡ true) stands.loop there.holds;
       keeps = keeps;
     }
+
+-- it fits there, and so do the loops in it
+pub stands_fits : (u : Program) (head : Loop) (path : List Range) → IsWellMade u → StandsIn u head path → fits_in_loop head path ≡ true
+stands_fits u head path well stands =
+    let here = stands_well u head path well stands in
+    let n = here.nesting in
+    let level : n.level ≡ length n.path = here.levels ∙ sym (ap length here.ranges) in
+    let fits : fits_in (stmt.For head) n.path ≡ true = keeps_fits (stmt.For head) n level here.keeps in
+    subst (λ p. fits_in_loop head p ≡ true) here.ranges (sym (ap (λ k. k n.path) (fold_stmt-For fits_at fits_within head)) ∙ fits)
+
+-- ---- at most 8 loops stand one in the other
+
+abbrev KeepsShort : Stmt → Type 0
+KeepsShort x = (n : Nesting) → n.level ≤ 8 → (made x).keeps n ≡ true → n.level + length (front_in x) ≤ 8
+
+short_none : (x : Stmt) → front_in x ≡ [] → KeepsShort x
+short_none x none n at keeps = omega (arith, at, ap length none)
+
+list_short : (xs : List Stmt) → Each KeepsShort xs → (n : Nesting) → n.level ≤ 8 → list_keeps (map made xs) n ≡ true → n.level + length (only_loops (map front_in xs)) ≤ 8
+list_short [] h n at keeps = omega (arith, at)
+list_short (x ∷ []) h n at keeps = h.0 n at (and_parts ((made x).keeps n) true keeps).0
+list_short (x ∷ y ∷ xs) h n at keeps = omega (arith, at)
+
+keeps_short : (x : Stmt) → KeepsShort x
+keeps_short = stmt_ind KeepsShort (record {
+  assign = λ place a subs value. short_none _ (fold_stmt-Assign front_step front_layer place a subs value);
+  add_to = λ place a subs value atomic. short_none _ (fold_stmt-AddTo front_step front_layer place a subs value atomic);
+  declare = λ place x init. short_none _ (fold_stmt-Declare front_step front_layer place x init);
+  set_local = λ place x value. short_none _ (fold_stmt-SetLocal front_step front_layer place x value);
+  choice = λ place test body otherwise p q. short_none _ (fold_stmt-If front_step front_layer place test body otherwise);
+  loop = λ l p n at keeps.
+      let kept = keeps_head l n keeps in
+      let few : n.level < 8 = few_levels n.level kept.shallow in
+      let inner : suc n.level + length (only_loops (map front_in l.body)) ≤ 8 = list_short l.body p (entered l n) (omega (arith, few)) kept.inner in
+      let loops : front_in (stmt.For (roll-Loop l)) ≡ _ = fold_stmt-For front_step front_layer (roll-Loop l) ∙ fold_loop front_step front_layer l in
+      omega (arith, inner, ap length loops);
+  block = λ body p n at keeps.
+      let opened : list_keeps (map made body) n ≡ true = sym (ap (λ (m : Made). m.keeps n) (fold_stmt-Block made_at made_loop body)) ∙ keeps in
+      subst (λ (bs : List Bounds). n.level + length bs ≤ 8) (sym (fold_stmt-Block front_step front_layer body)) (list_short body p n at opened);
+})
+
+pub stands_shallow : (u : Program) (head : Loop) (path : List Range) → IsWellMade u → StandsIn u head path → length path + length (front_of head) ≤ 8
+stands_shallow u head path well stands =
+    let here = stands_well u head path well stands in
+    let few = keeps_short (stmt.For head) here.nesting (omega (arith, here.levels, here.short)) here.keeps in
+    omega (arith, few, here.levels, ap length (fold_stmt-For front_step front_layer head))

@@ -2,3 +2,4 @@ pub mod Places
 pub mod Bands
 pub mod Decisions
 pub mod Plans
+pub mod Counts

@@ -1,5 +1,5 @@
 -- Where a loop stands, and the references of its nest by which it is planned.
-use Rattle.std.specs.Prelude.{◌≡◌, ℕ, ◌+◌, List, [], length}
+use Rattle.std.specs.Prelude.{◌≡◌, ◌+◌, List, [], length}
 use Rattle.std.specs.List.{Contains}
 use Rattle.species_arcs.specs.Pairwise.{Pairwise}
 use Rattle.species_ast.specs.declared.tree.Loop.{Loop}
@@ -13,11 +13,11 @@ use Rattle.species_references.specs.declared.nest.Reference.{Reference}
 use Rattle.species_references.specs.References.{adds_of, IsReference, AreNumberedFrom}
 
 -- The loop is one of the unit, and the loops around it have these ranges.
-pub record StandsIn (u : Program) (head : Loop) (path : List Range) : Type 0 where
+pub record StandsIn (u : Program) (head : Loop) (ranges : List Range) : Type 0 where
   pub placed : PlacedLoop
   pub there : Contains (placed_loops u) placed
   pub loop : placed.head ≡ head
-  pub path : placed.stands.around.path ≡ path
+  pub path : placed.stands.around.path ≡ ranges
 
 -- The list shows the plain references of the loop's nest, in which each `+=` is a read and a write, in order of evaluation.
 pub record ArePlain (u : Program) (head : Loop) (path : List Range) (refs : List Reference) : Type 0 where

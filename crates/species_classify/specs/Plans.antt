@@ -1,5 +1,5 @@
 -- The plan of a nest: the decision with the arcs of its band.
-use Rattle.std.specs.Prelude.{◌≡◌, ℕ, zero, suc, ◌+◌, ◌++◌, List, [], length}
+use Rattle.std.specs.Prelude.{◌≡◌, ℕ, zero, suc, ◌+◌, ◌++◌, List, [], ◌∷◌, length}
 use Rattle.species_arcs.specs.Pairwise.{Pairwise}
 use Rattle.species_arcs.specs.declared.places.Arc.{Arc}
 use Rattle.species_arcs.specs.declared.plans.Nest.{Nest}
@@ -15,7 +15,6 @@ use Rattle.species_merge.specs.Bounds.{IsBoundOf}
 use Rattle.species_nests.specs.Nests.{Placed, nest_of}
 use Rattle.species_references.specs.declared.nest.Reference.{Reference}
 use Rattle.species_references.specs.References.{adds_of, IsReference}
-use Rattle.species_classify.specs.declared.decide.Decision.{Decision}
 use Rattle.species_classify.specs.Decisions.{IsDecision}
 
 -- the bound of a loop is added to a list

@@ -10,7 +10,7 @@ use species_references::Grouped;
 /// The leading loops of a nest that carry no pair, at least one; or the first pair that its first loop
 /// carries, by the numbers of its references.
 #[derive(Clone, Copy, Debug, PartialEq, Eq)]
-pub(crate) enum Band {
+pub enum Band {
     Free(u32),
     Carried(u32, u32),
 }

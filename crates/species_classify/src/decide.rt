@@ -1,14 +1,15 @@
 //! What the dependences of a nest decide.
 
-ghost use Rattle.std.specs.Prelude.{◌≡◌, ◌<◌, ◌≤◌, ℕ, length, IfOk};
+ghost use Rattle.std.specs.Prelude.{◌≡◌, ◌<◌, ◌≤◌, ◌^◌, ℕ, length, IfOk};
 ghost use Rattle.std.specs.List.{Any};
 ghost use Rattle.species_ast.specs.Scope.Nests.{front_of};
 ghost use Rattle.species_ast.specs.Scope.WellMade.{IsWellMade};
 ghost use Rattle.species_gather.specs.Summed.{summed_arrays};
 ghost use Rattle.species_references.specs.Ranges.{ranges_seen, ranges_in_loop};
 ghost use Rattle.species_depend.specs.Carried.{AreAsked};
+ghost use Rattle.species_classify.specs.Counts.{most_in_loop};
 ghost use Rattle.species_classify.specs.Decisions.{sequential, parallel, IsSharedDecisionOf, IsDecidedBy, IsDecision};
-ghost use Rattle.species_classify.specs.Places.{StandsIn};
+ghost use Rattle.species_classify.specs.Places.{StandsIn, ArePlain};
 
 use crate::bands::{Band, band_of};
 use crate::locals::first_outer_local;
@@ -123,6 +124,23 @@ fn decide_by(
     }
 }
 
+/// The plain references of the nest of `head`, kept by array.
+fn plain_references(
+    alloc: Global,
+    unit: &Unit,
+    head: &Loop,
+    path: &[LoopRange],
+    ranges: &Ranges,
+) -> Result<Grouped, OutOfMemory>
+    requires ranges { ranges_seen ranges.now ≡ ranges_in_loop head.now (ranges_seen path.now) }
+    requires few { most_in_loop head.now < 2 ^ 32 }
+    ensures { IfOk result (ArePlain unit.now head.now (ranges_seen path.now)) }
+{
+    let plain = references(alloc, unit, head, path, ranges, 1, &[])?;
+    let refs = group(alloc, plain)?;
+    Ok(refs)
+}
+
 /// How many loops of the nest of `head` run in parallel, and in which mode, or why it is sequential. `path`
 /// has the ranges of the loops around it, and `ranges` those of the loops in it.
 pub(crate) fn decide(
@@ -135,6 +153,7 @@ pub(crate) fn decide(
     requires made { IsWellMade unit.now }
     requires stands { StandsIn unit.now head.now (ranges_seen path.now) }
     requires ranges { ranges_seen ranges.now ≡ ranges_in_loop head.now (ranges_seen path.now) }
+    requires few { most_in_loop head.now < 2 ^ 32 }
     ensures decision { IfOk result (IsDecision unit.now head.now (ranges_seen path.now)) }
     ensures deep { IfOk result (λ d. d.depth ≤ length (front_of head.now)) }
 {
@@ -142,8 +161,7 @@ pub(crate) fn decide(
         return Ok(Decision::sequential(alloc, Reason::Outer { local }));
     }
     let outer = path.len() as u32;
-    let plain = references(alloc, unit, head, path, ranges, 1, &[])?;
-    let refs = group(alloc, plain)?;
+    let refs = plain_references(alloc, unit, head, path, ranges)?;
     let front = perfect_depth(head, outer);
     decide_by(alloc, unit, head, &refs, outer, front)
 }

@@ -3,10 +3,12 @@
 #![tactic(auto)]
 
 mod bands;
+mod counts;
 mod decide;
 mod locals;
 mod plan;
 
+pub use bands::Band;
 pub use decide::Decision;
 pub use plan::plan_nest;
 

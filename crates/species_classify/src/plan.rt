@@ -1,6 +1,6 @@
 //! The plan of a nest.
 
-ghost use Rattle.std.specs.Prelude.{◌≡◌, ◌<◌, ◌≤◌, ◌-◌, [], ◌∷◌, ◌++◌, List, ℕ, true, false, length, IfOk, OnOk, All};
+ghost use Rattle.std.specs.Prelude.{◌≡◌, ◌<◌, ◌≤◌, ◌-◌, ◌^◌, [], ◌∷◌, ◌++◌, List, ℕ, true, false, length, IfOk, OnOk, All};
 ghost use Rattle.species_arcs.specs.Sizes.{HasSmallSpan};
 ghost use Rattle.species_ast.specs.declared.tree.Loop.{out-Loop};
 ghost use Rattle.species_ast.specs.Scope.Hulls as hulls;
@@ -10,11 +10,13 @@ ghost use Rattle.species_linear.specs.Box.{HasSmallPath};
 ghost use Rattle.species_linear.specs.Point.{IsShort};
 ghost use Rattle.species_merge.specs.Sizes.{IsSmallBound};
 ghost use Rattle.species_references.specs.Ranges.{ranges_seen, ranges_in_loop};
+ghost use Rattle.species_classify.specs.Counts.{most_in_loop};
 ghost use Rattle.species_classify.specs.Places.{StandsIn};
 ghost use Rattle.species_classify.specs.Plans.{HasOneMore, AddsBounds, AreBandBounds, AreBandArcs, IsPlan};
 ghost use Rattle.species_ranges.specs.Fitting.{fits_in, fits_in_list, fits_in_loop};
 ghost use Rattle.species_nests.specs.Nests.{nest_in, nest_of};
 
+use crate::counts::check_references;
 use crate::decide::{Decision, decide};
 use species_arcs::{Arc, Nest};
 use species_ast::{Loop, OutOfMemory, Stmt, Unit};
@@ -157,6 +159,7 @@ fn band_arcs(
     requires made { IsWellMade unit.now }
     requires stands { StandsIn unit.now head.now (ranges_seen path.now) }
     requires ranges { ranges_seen ranges.now ≡ ranges_in_loop head.now (ranges_seen path.now) }
+    requires few { most_in_loop head.now < 2 ^ 32 }
     requires deep { depth ≤ length (front_of head.now) }
     ensures arcs { IfOk result (λ arcs. AreBandArcs depth unit.now head.now (ranges_seen path.now) gathered.now arcs) }
     ensures spans { IfOk result (λ arcs. All (λ arc. All HasSmallSpan arc.dims) arcs) }
@@ -176,7 +179,8 @@ fn band_arcs(
     Ok(Items::from_vec(arcs))
 }
 
-/// The plan of the nest of `head`, a loop of the unit. `path` has the ranges of the loops around it.
+/// The plan of the nest of `head`, a loop of the unit. `path` has the ranges of the loops around it. A nest
+/// that may have 2^32 references gets the answer for want of memory.
 pub fn plan_nest(
     alloc: Global,
     unit: &Unit,
@@ -188,6 +192,7 @@ pub fn plan_nest(
     ensures plan { IfOk result (IsPlan unit.now head.now (ranges_seen path.now)) }
     ensures spans { IfOk result (λ nest. All (λ arc. All HasSmallSpan arc.dims) nest.arcs) }
 {
+    check_references(head)?;
     let ranges = nest_ranges(alloc, head, path)?;
     let Decision {
         depth,

@@ -1,4 +1,4 @@
-use Rattle.species_classify.proofs.DepthLemmas.{free_first, free_next, free_end, stop_here}
+use Rattle.species_classify.proofs.DepthLemmas.{free_first, free_next, free_end}
 use Rattle.species_classify.proofs.bands.depth_of.Goals as goal
 
 pub loop-level-init : goal.loop-level-init

@@ -1,5 +1,5 @@
-use Rattle.std.proofs.Common.{refl}
-use Rattle.species_classify.proofs.BoundLemmas.{one_bound, more_bounds, for_bounds, block_bounds, other_bounds, sole_assign, sole_add, sole_declare, sole_set, sole_if}
+use Rattle.std.proofs.Common.{◌-◌, refl}
+use Rattle.species_classify.proofs.BoundLemmas.{one_bound, more_bounds, for_bounds, block_bounds, other_bounds, sole_assign, sole_add, sole_declare, sole_set, sole_if, only_bounds, no_bounds, several_bounds, one_is}
 use Rattle.species_classify.proofs.plan.+bounds.Goals as goal
 
 pub add_bounds-returns-then-depth-eq1-clause-bounds : goal.add_bounds-returns-then-depth-eq1-clause-bounds
@@ -39,3 +39,14 @@ add_bounds_in-returns-in-SetLocal-clause-bounds t c h at =
 pub add_bounds_in-returns-in-If-clause-bounds : goal.add_bounds_in-returns-in-If-clause-bounds
 add_bounds_in-returns-in-If-clause-bounds t c h at =
     let i = c.in-If in other_bounds c.args.depth c.args.stmt.now at c.args.found.now.items (sole_if c.args.stmt.now i.place i.test i.body i.otherwise i.is)
+
+pub add_bounds_in_body-returns-in-empty-clause-bounds : goal.add_bounds_in_body-returns-in-empty-clause-bounds
+add_bounds_in_body-returns-in-empty-clause-bounds t c h at = no_bounds c.args.depth c.args.body.now at c.args.found.now.items c.in-empty.len_below
+
+pub add_bounds_in_body-returns-in_ok-add_bounds_in-in-len1-clause-bounds : goal.add_bounds_in_body-returns-in_ok-add_bounds_in-in-len1-clause-bounds
+add_bounds_in_body-returns-in_ok-add_bounds_in-in-len1-clause-bounds t c h at =
+    only_bounds c.args.depth c.args.body.now c.only-item.result c.args.path.now at c.args.found.now.items c.add_bounds_in.new.found.items
+    (one_is c.args.body.now c.only-item.result c.in-len1.len_at_least c.in-len1.len_below c.only-item.is) c.in_ok-add_bounds_in-in-len1.ensures.bounds h
+
+pub add_bounds_in_body-returns-in-len2-up-clause-bounds : goal.add_bounds_in_body-returns-in-len2-up-clause-bounds
+add_bounds_in_body-returns-in-len2-up-clause-bounds t c h at = several_bounds c.args.depth c.args.body.now at c.args.found.now.items c.in-len2-up.len_at_least
