@@ -1,10 +1,10 @@
 -- The iterations of a running of a planned nest meet on elements of gathered arrays alone.
-use Rattle.std.proofs.Common.{◌≡◌, ◌≢◌, refl, ap, sym, ◌∙◌, subst, arith, ℕ, zero, suc, ◌+◌, ◌<◌, ◌≤◌, Bool, true, false, nat_eq, List, [], ◌∷◌, ◌++◌, map, take, length, ◌⊎◌, inl, inr, ℤ, pos}
+use Rattle.std.proofs.Common.{◌≡◌, ◌≢◌, refl, ap, sym, ◌∙◌, subst, arith, ℕ, zero, suc, ◌+◌, ◌<◌, ◌≤◌, true, nat_eq, List, [], ◌∷◌, ◌++◌, map, take, length, inl, inr, ℤ}
 use Rattle.std.specs.Prelude.{slice_index_or, All}
 use Rattle.std.specs.List.{Contains, list_any}
 use Rattle.std.proofs.lemmas.Bool.{cases_lt}
 use Rattle.std.proofs.lemmas.List.{length-append}
-use Rattle.species_ast.specs.Accesses.{Joins, Cells, Tree, Outcome, Ended, Stopped, Element, Access, Adds, Reads, IsDefined, run}
+use Rattle.species_ast.specs.Accesses.{Joins, Cells, Tree, Outcome, Ended, Stopped, Element, Access, Adds, IsDefined, run}
 use Rattle.species_ast.specs.Evaluation.{Frame, Context, sense, sizes_of}
 use Rattle.species_ast.specs.Run.{inside, outside, spot, loop_of, does_scope, source_context}
 use Rattle.species_ast.specs.declared.tree.Loop.{Loop, out-Loop}
@@ -19,8 +19,8 @@ use Rattle.species_classify.specs.Places.{StandsIn}
 use Rattle.species_classify.specs.declared.decide.Decision.{Decision}
 use Rattle.species_depend.specs.Law.{DifferInBand}
 use Rattle.species_linear.specs.Point.{point_of}
-use Rattle.species_nests.specs.Arrivals.{header, Running, moment, ComesTo}
-use Rattle.species_nests.specs.Meetings.{Ran, on_ended, in_turns, in_loops, iterations_in, running_traces, nth, Touches, Meet, MeetOnlyOn, AddsExactlyOn}
+use Rattle.species_nests.specs.Arrivals.{header, Running, moment}
+use Rattle.species_nests.specs.Meetings.{Ran, on_ended, in_turns, in_loops, iterations_in, running_traces, nth, MeetOnlyOn, AddsExactlyOn}
 use Rattle.species_nests.specs.Nests.{Placed, band, nest_of}
 use Rattle.species_nests.proofs.RunningLaws.{contains_later}
 use Rattle.species_occurrences.specs.Iterators.{AreTaken, ranges_of}
