@@ -250,7 +250,7 @@ program_status words bytes status text line u lawful (IsAnswer.refused l x is) h
 program_status words bytes status text line u lawful (IsAnswer.answered c l v t is holds) h exact = refl
 
 -- an input that is a program is refused for want of memory alone
-wanting : (bytes : List ℕ) (refusal : InputRefusal) (v : Program) (rose : Type 0) → IsReadAs (Err refusal) bytes → IsProgram bytes v
+pub wanting : (bytes : List ℕ) (refusal : InputRefusal) (v : Program) (rose : Type 0) → IsReadAs (Err refusal) bytes → IsProgram bytes v
     → (refusal ≡ input.ReadFault → rose) → (rose → ⊥) → refusal ≡ input.Memory
 wanting bytes refusal v rose exact is fault none = of (exact (Ok v) is.short is.is_read)
   where

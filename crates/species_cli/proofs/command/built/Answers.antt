@@ -1,0 +1,20 @@
+use Rattle.species_cli.proofs.CommandLemmas.{built_arcs, built_annotate, not_built_compile, not_built_check, not_built_run, not_built_drill}
+use Rattle.species_cli.proofs.command.built.Goals as goal
+
+pub returns-in-Arcs : goal.returns-in-Arcs
+returns-in-Arcs g c = built_arcs
+
+pub returns-in-Annotate : goal.returns-in-Annotate
+returns-in-Annotate g c = built_annotate
+
+pub returns-in-Compile : goal.returns-in-Compile
+returns-in-Compile g c = not_built_compile
+
+pub returns-in-Check : goal.returns-in-Check
+returns-in-Check g c = not_built_check
+
+pub returns-in-Run : goal.returns-in-Run
+returns-in-Run g c = not_built_run _
+
+pub returns-in-Drill : goal.returns-in-Drill
+returns-in-Drill g c = not_built_drill _ _
