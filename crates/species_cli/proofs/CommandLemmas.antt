@@ -1,6 +1,6 @@
 -- The commands that are built.
-use Rattle.std.proofs.Common.{◌≡◌, ◌∙◌, ap, sym, refl, ℕ, Bool, Option, Some, None, Result, Ok, Err, String, Global, List}
-use Rattle.std.specs.Prelude.{◌↔◌}
+use Rattle.std.proofs.Common.{◌≡◌, ◌∙◌, ap, sym, ℕ, Bool, Option, Some, None, Result, Ok, Err, String, Global, List}
+use Rattle.std.specs.Prelude.{◌↔◌, IfSome, MatchOption}
 use Rattle.species_words.specs.declared.Command.{Command}
 use Rattle.species_words.specs.declared.Command.TheVariants as command
 use Rattle.species_words.specs.declared.Usage.{Usage}
@@ -9,75 +9,61 @@ use Rattle.species_cli.specs.declared.command.ProgramCommand.{ProgramCommand}
 use Rattle.species_cli.specs.declared.command.ProgramCommand.TheVariants as built
 use Rattle.species_cli.specs.Commands.{command_for, IsLineOf, IsLawful}
 
+-- ---- commands that are not built
+
+abbrev pub IsNotBuilt : Command → Type 0
+IsNotBuilt m = (c : ProgramCommand) → m ≡ command_for c → ⊥
+
+pub not_built_compile : IsNotBuilt command.Compile
+not_built_compile built.Arcs h = cc
+not_built_compile built.Annotate h = cc
+
+pub not_built_check : IsNotBuilt command.Check
+not_built_check built.Arcs h = cc
+not_built_check built.Annotate h = cc
+
+pub not_built_run : (trace : Bool) → IsNotBuilt (command.Run trace)
+not_built_run trace built.Arcs h = cc
+not_built_run trace built.Annotate h = cc
+
+pub not_built_drill : (nests from : ℕ) → IsNotBuilt (command.Drill nests from)
+not_built_drill nests from built.Arcs h = cc
+not_built_drill nests from built.Annotate h = cc
+
+-- ---- words
+
 -- the words are read as this, and as nothing else
 abbrev pub IsReadAsWords : List (String Global) → Result Command Usage → Type 0
 IsReadAsWords words r = (m : Command) → (r ≡ Ok m) ↔ IsCommandLine words m
 
--- this command is the built one, if it is any
+-- this is the built command, if it is any
 abbrev pub IsBuiltAs : Command → Option ProgramCommand → Type 0
-IsBuiltAs m found = (c : ProgramCommand) → (found ≡ Some c) ↔ (m ≡ command_for c)
+IsBuiltAs m found = MatchOption found (IsNotBuilt m) (λ c. m ≡ command_for c)
 
-pub built_arcs : IsBuiltAs command.Arcs (Some built.Arcs)
-built_arcs built.Arcs = (λ h. refl, λ h. refl)
-built_arcs built.Annotate = (λ h. cc, λ h. cc)
-
-pub built_annotate : IsBuiltAs command.Annotate (Some built.Annotate)
-built_annotate built.Arcs = (λ h. cc, λ h. cc)
-built_annotate built.Annotate = (λ h. refl, λ h. refl)
-
-pub not_built_compile : IsBuiltAs command.Compile None
-not_built_compile built.Arcs = (λ h. cc, λ h. cc)
-not_built_compile built.Annotate = (λ h. cc, λ h. cc)
-
-pub not_built_check : IsBuiltAs command.Check None
-not_built_check built.Arcs = (λ h. cc, λ h. cc)
-not_built_check built.Annotate = (λ h. cc, λ h. cc)
-
-pub not_built_run : (trace : Bool) → IsBuiltAs (command.Run trace) None
-not_built_run trace built.Arcs = (λ h. cc, λ h. cc)
-not_built_run trace built.Annotate = (λ h. cc, λ h. cc)
-
-pub not_built_drill : (nests from : ℕ) → IsBuiltAs (command.Drill nests from) None
-not_built_drill nests from built.Arcs = (λ h. cc, λ h. cc)
-not_built_drill nests from built.Annotate = (λ h. cc, λ h. cc)
-
-abbrev ok : Command → Result Command Usage
+abbrev pub ok : Command → Result Command Usage
 ok m = Ok m
 
-abbrev err : Usage → Result Command Usage
-err e = Err e
-
-abbrev some : ProgramCommand → Option ProgramCommand
-some c = Some c
-
-abbrev none : Option ProgramCommand
-none = None
+abbrev pub error : Usage → Result Command Usage
+error e = Err e
 
 same_command : (a b : Command) → ok a ≡ ok b → a ≡ b
 same_command a b h = cc
 
-err_is_no_command : (e : Usage) (m : Command) → err e ≡ ok m → ⊥
-err_is_no_command e m h = cc
+error_is_no_command : (e : Usage) (m : Command) → error e ≡ ok m → ⊥
+error_is_no_command e m h = cc
 
-none_is_no_command : (c : ProgramCommand) → none ≡ some c → ⊥
-none_is_no_command c h = cc
+-- words that are a command line are one of its command
+pub asks_line : (words : List (String Global)) (r : Result Command Usage) (m : Command) (found : Option ProgramCommand) → IsReadAsWords words r → r ≡ ok m → IsBuiltAs m found
+    → IfSome found (IsLineOf words)
+asks_line words r m None read is b = tt
+asks_line words r m (Some c) read is b = (read (command_for c)).0 (is ∙ ap ok b)
 
--- words that are a command line ask for its command, if it is built
+-- they are lawful where that is built
 pub asks : (words : List (String Global)) (r : Result Command Usage) (m : Command) (found : Option ProgramCommand) → IsReadAsWords words r → r ≡ ok m → IsBuiltAs m found
-    → (c : ProgramCommand) → (found ≡ some c) ↔ IsLineOf words c
-asks words r m found read is built c = (
-  λ h. (read (command_for c)).0 (is ∙ ap ok ((built c).0 h)),
-  λ line. (built c).1 (same_command m (command_for c) (sym is ∙ (read (command_for c)).1 line)),
-)
+    → MatchOption found (IsLawful words → ⊥) (λ c. IsLawful words)
+asks words r m None read is b = λ lawful. b lawful.0 (same_command m (command_for lawful.0) (sym is ∙ (read (command_for lawful.0)).1 lawful.1))
+asks words r m (Some c) read is b = (c, (read (command_for c)).0 (is ∙ ap ok b))
 
--- words that are none ask for none
-pub asks_nothing : (words : List (String Global)) (r : Result Command Usage) (e : Usage) → IsReadAsWords words r → r ≡ err e
-    → (c : ProgramCommand) → (none ≡ some c) ↔ IsLineOf words c
-asks_nothing words r e read is c = (
-  λ h. absurd (none_is_no_command c h),
-  λ line. absurd (err_is_no_command e (command_for c) (sym is ∙ (read (command_for c)).1 line)),
-)
-
--- where none is asked for, the words are not lawful
-pub not_lawful : (words : List (String Global)) (found : Option ProgramCommand) → ((c : ProgramCommand) → (found ≡ some c) ↔ IsLineOf words c) → found ≡ none → IsLawful words → ⊥
-not_lawful words found asked is (c, line) = none_is_no_command c (sym is ∙ (asked c).1 line)
+-- words that are no command line are not lawful
+pub asks_nothing : (words : List (String Global)) (r : Result Command Usage) (e : Usage) → IsReadAsWords words r → r ≡ error e → IsLawful words → ⊥
+asks_nothing words r e read is lawful = error_is_no_command e (command_for lawful.0) (sym is ∙ (read (command_for lawful.0)).1 lawful.1)

@@ -1,7 +1,7 @@
 //! The commands that read a program, and what each of them writes.
-ghost use Rattle.std.specs.Prelude.{◌≡◌, ◌↔◌, ℕ, List, Some, IfOk};
+ghost use Rattle.std.specs.Prelude.{◌≡◌, ℕ, List, IfOk, IfSome, MatchOption};
 ghost use Rattle.species_ast.specs.Scope.WellMade.{IsWellMade};
-ghost use Rattle.species_cli.specs.Commands.{command_for, IsLineOf};
+ghost use Rattle.species_cli.specs.Commands.{command_for, IsLineOf, IsLawful};
 ghost use Rattle.species_cli.specs.Texts.{IsProgram, IsTextOf};
 ghost use Rattle.species_cli.specs.declared.command.ProgramCommand.TheVariants as program_command;
 
@@ -24,7 +24,7 @@ pub enum ProgramCommand {
 
 /// The command, if it is built.
 fn built(command: Command) -> Option<ProgramCommand>
-    ensures { (c : ProgramCommand) → (result ≡ Some c) ↔ (command ≡ command_for c) }
+    ensures { MatchOption result ((c : ProgramCommand) → command ≡ command_for c → ⊥) (λ c. command ≡ command_for c) }
 {
     match command {
         Command::Arcs => Some(ProgramCommand::Arcs),
@@ -38,7 +38,8 @@ fn built(command: Command) -> Option<ProgramCommand>
 
 /// The command that the words ask for, if it is built.
 pub(crate) fn asked(words: &[String]) -> Option<ProgramCommand>
-    ensures { (c : ProgramCommand) → (result ≡ Some c) ↔ IsLineOf words.now c }
+    ensures line { IfSome result (IsLineOf words.now) }
+    ensures lawful { MatchOption result (IsLawful words.now → ⊥) (λ c. IsLawful words.now) }
 {
     match read_words(words) {
         Ok(command) => built(command),
@@ -51,8 +52,9 @@ fn arcs_text(alloc: Global, unit: &Unit) -> Result<Vec<u8>, OutOfMemory>
     requires { IsWellMade unit.now }
     ensures { IfOk result (λ text. (bytes : List ℕ) → IsProgram bytes unit.now → IsTextOf program_command.Arcs unit.now text.items) }
 {
+    let text = table(alloc, unit)?;
     law_table();
-    table(alloc, unit)
+    Ok(text)
 }
 
 /// The text with a species line at each planned loop, true in each run, and read back as it was written.
@@ -60,10 +62,11 @@ fn annotated_text(alloc: Global, unit: &Unit) -> Result<Vec<u8>, OutOfMemory>
     requires { IsWellMade unit.now }
     ensures { IfOk result (λ text. (bytes : List ℕ) → IsProgram bytes unit.now → IsTextOf program_command.Annotate unit.now text.items) }
 {
+    let lined = annotate(alloc, unit)?;
+    let text = print(alloc, &lined)?;
     law_lines();
     law_marked_read_back();
-    let lined = annotate(alloc, unit)?;
-    print(alloc, &lined)
+    Ok(text)
 }
 
 /// What the command writes of a program.

@@ -1,11 +1,5 @@
-use Rattle.species_cli.proofs.CommandLemmas.{built_arcs, built_annotate, not_built_compile, not_built_check, not_built_run, not_built_drill}
+use Rattle.species_cli.proofs.CommandLemmas.{not_built_compile, not_built_check, not_built_run, not_built_drill}
 use Rattle.species_cli.proofs.command.built.Goals as goal
-
-pub returns-in-Arcs : goal.returns-in-Arcs
-returns-in-Arcs g c = built_arcs
-
-pub returns-in-Annotate : goal.returns-in-Annotate
-returns-in-Annotate g c = built_annotate
 
 pub returns-in-Compile : goal.returns-in-Compile
 returns-in-Compile g c = not_built_compile
