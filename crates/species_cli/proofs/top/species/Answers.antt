@@ -3,19 +3,19 @@ use Rattle.species_cli.specs.Commands.{IsLawful}
 use Rattle.species_cli.proofs.TopLemmas.{err, gave_usage, cut_usage, came, gave_said, cut_said, is_read_fault, read_to_end, cut_at_end, came_as, gave_text, cut_text, unlawful_status, program_status, unread_status, wanting}
 use Rattle.species_cli.proofs.top.species.Goals as goal
 
-pub returns-in-None-clause-answered : goal.returns-in-None-clause-answered
-returns-in-None-clause-answered g c = λ p q.
-    let unlawful : IsLawful c.args.words.now → ⊥ = c.in-None.ensures.lawful in
+pub returns-in_default-clause-answered : goal.returns-in_default-clause-answered
+returns-in_default-clause-answered g c = λ p q.
+    let unlawful : IsLawful c.args.words.now → ⊥ = c.in_default.ensures.lawful in
     gave_usage c.args.words.now _ _ _ _ _ c.say.result unlawful c.say.ensures.status c.say.ensures.whole p
 
-pub returns-in-None-clause-cut_short : goal.returns-in-None-clause-cut_short
-returns-in-None-clause-cut_short g c = λ cut.
-    let unlawful : IsLawful c.args.words.now → ⊥ = c.in-None.ensures.lawful in
+pub returns-in_default-clause-cut_short : goal.returns-in_default-clause-cut_short
+returns-in_default-clause-cut_short g c = λ cut.
+    let unlawful : IsLawful c.args.words.now → ⊥ = c.in_default.ensures.lawful in
     cut_usage c.args.words.now _ _ _ _ _ _ _ unlawful (c.say.ensures.part cut) (c.say.ensures.fault cut) refl
 
-pub returns-in-None-clause-exact : goal.returns-in-None-clause-exact
-returns-in-None-clause-exact g c = λ bytes status text line told is p q r.
-    let unlawful : IsLawful c.args.words.now → ⊥ = c.in-None.ensures.lawful in
+pub returns-in_default-clause-exact : goal.returns-in_default-clause-exact
+returns-in_default-clause-exact g c = λ bytes status text line told is p q r.
+    let unlawful : IsLawful c.args.words.now → ⊥ = c.in_default.ensures.lawful in
     unlawful_status c.args.words.now bytes status c.say.result text line _ unlawful is c.say.ensures.status c.say.ensures.fault r
 
 pub returns-in-Err-clause-answered : goal.returns-in-Err-clause-answered
@@ -60,7 +60,7 @@ returns-in-Err-clause-exact g c = λ bytes status text line told is p q r.
 pub returns-in-Ok-write_all-clause-answered : goal.returns-in-Ok-write_all-clause-answered
 returns-in-Ok-write_all-clause-answered g c = λ p q.
     let lawful : IsLawful c.args.words.now = c.in-Some.ensures.lawful in
-    gave_text c.args.words.now _ c.in-Some.command c.in-Ok.unit _ _ _ _ _ _ c.in-Some.ensures.line c.in-Ok-text_of.ensures c.deref.ensures.value
+    gave_text c.args.words.now _ c.in-Some.command c.in-Ok.unit _ _ _ _ _ _ _ c.in-Some.ensures.line c.in-Ok-text_of.ensures c.deref.ensures.value
     (came_as c.in-Ok.unit _ _ (c.in-Ok.ensures.read tt)) c.in-Ok-write_all.ensures.ok
 
 pub returns-in-Ok-write_all-clause-exact : goal.returns-in-Ok-write_all-clause-exact
@@ -71,7 +71,7 @@ returns-in-Ok-write_all-clause-exact g c = λ bytes status text line told is p q
 pub returns-clause-cut_short : goal.returns-clause-cut_short
 returns-clause-cut_short g c = λ cut.
     let lawful : IsLawful c.args.words.now = c.in-Some.ensures.lawful in
-    cut_text c.args.words.now _ c.in-Some.command c.in-Ok.unit _ _ _ _ _ _ _ _ c.in-Some.ensures.line c.in-Ok-text_of.ensures c.deref.ensures.value
+    cut_text c.args.words.now _ c.in-Some.command c.in-Ok.unit _ _ _ _ _ _ _ _ _ c.in-Some.ensures.line c.in-Ok-text_of.ensures c.deref.ensures.value
     (came_as c.in-Ok.unit _ _ (c.in-Ok.ensures.read tt)) c.in-Err-write_all.ensures.part c.in-Err-write_all.ensures.fault refl
 
 pub returns-in-Err-clause-complete : goal.returns-in-Err-clause-complete
