@@ -68,7 +68,7 @@ fn refuse<N: Sink>(alloc: Global, notes: &mut N, refusal: InputRefusal) -> u8
 /// |---|---|
 /// | 0 | the answer was written to `output` |
 /// | 1 | the input is refused, for the reason on `notes` |
-/// | 2 | the words ask for no command |
+/// | 2 | the words ask for no command that is built |
 /// | 4 | a read failed |
 /// | 5 | a write failed |
 /// | 6 | memory ran out, of which no clause says when |

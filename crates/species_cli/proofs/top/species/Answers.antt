@@ -1,4 +1,4 @@
-use Rattle.std.proofs.Common.{rules, arith, ap, refl, inl, inr, ◌≢◌}
+use Rattle.std.proofs.Common.{arith, ap, refl, inl, inr, ◌≢◌}
 use Rattle.species_cli.specs.Commands.{IsLawful}
 use Rattle.species_cli.proofs.TopLemmas.{err, gave_usage, cut_usage, came, gave_said, cut_said, is_read_fault, read_to_end, cut_at_end, came_as, gave_text, cut_text, unlawful_status, program_status, unread_status, wanting}
 use Rattle.species_cli.proofs.top.species.Goals as goal
