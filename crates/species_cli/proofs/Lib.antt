@@ -1,1 +1,3 @@
+mod CommandLemmas
+mod TextLemmas
 pub mod TopLemmas

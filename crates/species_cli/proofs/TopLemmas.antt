@@ -2,7 +2,6 @@
 use Rattle.std.proofs.Common.{◌≡◌, ◌≢◌, ◌⊎◌, inl, inr, ◌∙◌, ap, sym, refl, subst, arith, append-nil, ℕ, ◌+◌, ◌≤◌, List, [], length, Option, Some, None, Result, Ok, Err, String, Global}
 use Rattle.species_ast.specs.Limits.{most_bytes}
 use Rattle.species_ast.specs.declared.tree.Unit.{Unit as Program}
-use Rattle.species_ast.specs.Scope.WellMade.{IsWellMade}
 use Rattle.species_io.specs.Told.{then_bytes, TookPart, AtEnd, GaveAtMost, GaveCount}
 use Rattle.species_reading.specs.Answers.{Answers, IsResolved, IsUnread, IsOutOfScope}
 use Rattle.species_reading.specs.Input.{in_input, IsOfProgram, WasRead, InputAnswers, IsUnlessStopped}
@@ -10,11 +9,12 @@ use Rattle.species_reading.specs.declared.refusal.ProgramRefusal.{ProgramRefusal
 use Rattle.species_reading.specs.declared.refusal.ProgramRefusal.TheVariants as program
 use Rattle.species_reading.specs.declared.refusal.InputRefusal.{InputRefusal}
 use Rattle.species_reading.specs.declared.refusal.InputRefusal.TheVariants as input
-use Rattle.species_report.specs.Table.{IsTable}
 use Rattle.species_scope.specs.Answers.{finding_of}
-use Rattle.species_truth.specs.Truth.{TablesAreTrue}
+use Rattle.species_cli.specs.declared.command.ProgramCommand.{ProgramCommand}
+use Rattle.species_cli.specs.Commands.{IsLineOf, IsLawful}
 use Rattle.species_cli.specs.Refusals.{refusal_line, too_long_line}
-use Rattle.species_cli.specs.Answer.{IsArcs, IsProgram, IsRefused, IsAnswer, Gave, sunk, IsAnswered, IsCutText, IsCutLine, IsSaid, usage_line}
+use Rattle.species_cli.specs.Texts.{IsProgram, IsTextOf}
+use Rattle.species_cli.specs.Answer.{IsRefused, IsAnswer, Gave, sunk, IsAnswered, IsCutText, IsCutLine, IsSaid, usage_line}
 
 -- ---- sources and sinks
 
@@ -31,14 +31,14 @@ err r = Err r
 
 -- ---- words that are not lawful
 
-pub gave_usage : (words : List (String Global)) (rose : Type 0) (told out old new : Option (List ℕ)) (result : ℕ) → (IsArcs words → ⊥)
+pub gave_usage : (words : List (String Global)) (rose : Type 0) (told out old new : Option (List ℕ)) (result : ℕ) → (IsLawful words → ⊥)
     → (result ≡ 2) ⊎ (result ≡ 5) → (result ≢ 5 → new ≡ then_bytes old usage_line) → result ≢ 5
     → (bytes : List ℕ) × Gave bytes told told × IsAnswered words rose bytes result (sunk out old) (sunk out new)
 gave_usage words rose told out old new result none (inl same) whole p =
     ([], gave_nothing told, record { text = []; line = usage_line; answer = subst (λ s. IsAnswer words rose [] s [] usage_line) (sym same) (IsAnswer.usage none); output = nothing_more out; notes = whole p })
 gave_usage words rose told out old new result none (inr cut) whole p = absurd (p cut)
 
-pub cut_usage : (words : List (String Global)) (rose : Type 0) (told old new : Option (List ℕ)) (P : List ℕ → Type 0) (fault same : Type 0) → (IsArcs words → ⊥) → TookPart old new usage_line → fault → same
+pub cut_usage : (words : List (String Global)) (rose : Type 0) (told old new : Option (List ℕ)) (P : List ℕ → Type 0) (fault same : Type 0) → (IsLawful words → ⊥) → TookPart old new usage_line → fault → same
     → (bytes : List ℕ) × Gave bytes told told × (P bytes ⊎ (IsCutLine words rose bytes old new × fault × same))
 cut_usage words rose told old new P fault same none part rises kept =
     ([], gave_nothing told, inr (record { status = 2; text = []; line = usage_line; answer = IsAnswer.usage none; part = part }, rises, kept))
@@ -93,13 +93,13 @@ refused_program bytes (program.Scope r) line h said = record { short = h.0; refu
 refused_program bytes program.Memory line h said = absurd h
 
 -- what is said of these bytes is an answer to them
-has_line : (words : List (String Global)) (rose : Type 0) (bytes : List ℕ) (refusal : InputRefusal) (status : ℕ) (line : List ℕ) → IsArcs words
+has_line : (words : List (String Global)) (rose : Type 0) (bytes : List ℕ) (refusal : InputRefusal) (status : ℕ) (line : List ℕ) → IsLawful words
     → (refusal ≡ input.ReadFault → rose) → InputAnswers bytes (Err refusal) → IsSaid refusal status line → IsAnswer words rose bytes status [] line
 has_line words rose bytes refusal status line lawful fault h IsSaid.too_long = IsAnswer.too_long lawful h
 has_line words rose bytes refusal status line lawful fault h IsSaid.read_fault = IsAnswer.read_fault lawful (fault refl)
 has_line words rose bytes refusal status line lawful fault h (IsSaid.program r l said) = IsAnswer.refused lawful l (refused_program bytes r l h said)
 
-pub gave_said : (words : List (String Global)) (rose : Type 0) (refusal : InputRefusal) (had left out old new : Option (List ℕ)) (status : ℕ) → IsArcs words
+pub gave_said : (words : List (String Global)) (rose : Type 0) (refusal : InputRefusal) (had left out old new : Option (List ℕ)) (status : ℕ) → IsLawful words
     → (refusal ≡ input.ReadFault → rose) → Came refusal had left → (line : List ℕ) × IsSaid refusal status line × (new ≡ then_bytes old line)
     → (bytes : List ℕ) × Gave bytes had left × IsAnswered words rose bytes status (sunk out old) (sunk out new)
 gave_said words rose refusal had left out old new status lawful fault of (line, is, took) = (
@@ -114,7 +114,7 @@ gave_said words rose refusal had left out old new status lawful fault of (line, 
   },
 )
 
-pub cut_said : (words : List (String Global)) (rose : Type 0) (refusal : InputRefusal) (had left old new : Option (List ℕ)) (P : List ℕ → Type 0) (fall same : Type 0) → IsArcs words
+pub cut_said : (words : List (String Global)) (rose : Type 0) (refusal : InputRefusal) (had left old new : Option (List ℕ)) (P : List ℕ → Type 0) (fall same : Type 0) → IsLawful words
     → (refusal ≡ input.ReadFault → rose) → Came refusal had left → (s : ℕ) × (x : List ℕ) × IsSaid refusal s x × TookPart old new x → fall → same
     → (bytes : List ℕ) × Gave bytes had left × (P bytes ⊎ (IsCutLine words rose bytes old new × fall × same))
 cut_said words rose refusal had left old new P fall same lawful fault of (status, line, is, part) falls kept = (
@@ -172,31 +172,29 @@ came_as u had left w = record { bytes = w.bytes; gave = w.given; is = record { s
     of (Err (program.Scope r)) holds same = cc
     of (Err program.Memory) holds same = cc
 
--- its table is the answer
-has_table : (law : TablesAreTrue) (words : List (String Global)) (rose : Type 0) (bytes text : List ℕ) (u : Program) → IsArcs words → IsProgram bytes u → IsWellMade u → IsTable u text
-    → IsAnswer words rose bytes 0 text []
-has_table law words rose bytes text u lawful is made table =
-    let read = is.is_read in IsAnswer.arcs lawful u text is table (law bytes text read.0 u read.1 read.2 made table)
+-- what the command writes of a program, whatever its bytes are
+abbrev pub IsTextFor : ProgramCommand → Program → List ℕ → Type 0
+IsTextFor c u text = (bytes : List ℕ) → IsProgram bytes u → IsTextOf c u text
 
-pub gave_table : (law : TablesAreTrue) (words : List (String Global)) (rose : Type 0) (u : Program) (text written : List ℕ) (had left old new notes : Option (List ℕ)) → IsArcs words
-    → IsWellMade u → IsTable u text → written ≡ text → CameAs u had left → new ≡ then_bytes old written
+pub gave_text : (words : List (String Global)) (rose : Type 0) (c : ProgramCommand) (u : Program) (text written : List ℕ) (had left old new notes : Option (List ℕ)) → IsLineOf words c
+    → IsTextFor c u text → written ≡ text → CameAs u had left → new ≡ then_bytes old written
     → (bytes : List ℕ) × Gave bytes had left × IsAnswered words rose bytes 0 (sunk old notes) (sunk new notes)
-gave_table law words rose u text written had left old new notes lawful made table same of took = (
+gave_text words rose c u text written had left old new notes line is same of took = (
   of.bytes,
   of.gave,
   record {
     text = text;
     line = [];
-    answer = has_table law words rose of.bytes text u lawful of.is made table;
+    answer = IsAnswer.answered c line u text of.is (is of.bytes of.is);
     output = took ∙ ap (λ t. then_bytes old t) same;
     notes = nothing_more notes;
   },
 )
 
-pub cut_table : (law : TablesAreTrue) (words : List (String Global)) (rose : Type 0) (u : Program) (text written : List ℕ) (had left old new : Option (List ℕ)) (P : List ℕ → Type 0) (fall same : Type 0) → IsArcs words
-    → IsWellMade u → IsTable u text → written ≡ text → CameAs u had left → TookPart old new written → fall → same
+pub cut_text : (words : List (String Global)) (rose : Type 0) (c : ProgramCommand) (u : Program) (text written : List ℕ) (had left old new : Option (List ℕ)) (P : List ℕ → Type 0) (fall same : Type 0) → IsLineOf words c
+    → IsTextFor c u text → written ≡ text → CameAs u had left → TookPart old new written → fall → same
     → (bytes : List ℕ) × Gave bytes had left × ((IsCutText words rose bytes old new × fall × same) ⊎ P bytes)
-cut_table law words rose u text written had left old new P fall same lawful made table is of part falls kept = (
+cut_text words rose c u text written had left old new P fall same line is equal of part falls kept = (
   of.bytes,
   of.gave,
   inl (
@@ -204,8 +202,8 @@ cut_table law words rose u text written had left old new P fall same lawful made
       status = 0;
       text = text;
       line = [];
-      answer = has_table law words rose of.bytes text u lawful of.is made table;
-      part = subst (TookPart old new) is part;
+      answer = IsAnswer.answered c line u text of.is (is of.bytes of.is);
+      part = subst (TookPart old new) equal part;
     },
     falls,
     kept,
@@ -215,14 +213,14 @@ cut_table law words rose u text written had left old new P fall same lawful made
 -- ---- the answer is the defined one
 
 -- words that are not lawful have no other
-pub unlawful_status : (words : List (String Global)) (bytes : List ℕ) (status result : ℕ) (text line : List ℕ) (fell : Type 0) → (IsArcs words → ⊥) → IsAnswer words ⊥ bytes status text line
+pub unlawful_status : (words : List (String Global)) (bytes : List ℕ) (status result : ℕ) (text line : List ℕ) (fell : Type 0) → (IsLawful words → ⊥) → IsAnswer words ⊥ bytes status text line
     → (result ≡ 2) ⊎ (result ≡ 5) → (result ≡ 5 → fell) → (fell → ⊥) → (result ≡ status) ⊎ (result ≡ 6)
 unlawful_status words bytes status result text line fell none (IsAnswer.usage unlawful) (inl same) cut p = inl same
 unlawful_status words bytes status result text line fell none (IsAnswer.usage unlawful) (inr five) cut p = absurd (p (cut five))
 unlawful_status words bytes status result text line fell none (IsAnswer.read_fault lawful rose) h cut p = absurd rose
 unlawful_status words bytes status result text line fell none (IsAnswer.too_long lawful long) h cut p = absurd (none lawful)
 unlawful_status words bytes status result text line fell none (IsAnswer.refused lawful l is) h cut p = absurd (none lawful)
-unlawful_status words bytes status result text line fell none (IsAnswer.arcs lawful u t is table holds) h cut p = absurd (none lawful)
+unlawful_status words bytes status result text line fell none (IsAnswer.answered c lawful u t is holds) h cut p = absurd (none (c, lawful))
 
 same_unit : (u v : Program) → IsUnlessStopped (Ok u) (Ok v) → u ≡ v
 same_unit u v (inl same) = cc
@@ -242,17 +240,17 @@ not_refused u program.Memory line said h = cc
 abbrev pub IsReadAs : Result Program InputRefusal → List ℕ → Type 0
 IsReadAs result bytes = (answer : Result Program ProgramRefusal) → length bytes ≤ most_bytes → Answers bytes answer → IsUnlessStopped result answer
 
--- a program that is read has the answer of its table
-pub program_status : (words : List (String Global)) (bytes : List ℕ) (status : ℕ) (text line : List ℕ) (u : Program) → IsArcs words → IsAnswer words ⊥ bytes status text line
+-- a program that is read has the answer of its text
+pub program_status : (words : List (String Global)) (bytes : List ℕ) (status : ℕ) (text line : List ℕ) (u : Program) → IsLawful words → IsAnswer words ⊥ bytes status text line
     → InputAnswers bytes (Ok u) → IsReadAs (Ok u) bytes → 0 ≡ status
 program_status words bytes status text line u lawful (IsAnswer.usage unlawful) h exact = absurd (unlawful lawful)
 program_status words bytes status text line u lawful (IsAnswer.read_fault l rose) h exact = absurd rose
 program_status words bytes status text line u lawful (IsAnswer.too_long l long) h exact = absurd (omega (arith, long, h.0))
 program_status words bytes status text line u lawful (IsAnswer.refused l x is) h exact = absurd (not_refused u is.refusal x is.said (exact (Err is.refusal) is.short is.holds))
-program_status words bytes status text line u lawful (IsAnswer.arcs l v t is table holds) h exact = refl
+program_status words bytes status text line u lawful (IsAnswer.answered c l v t is holds) h exact = refl
 
 -- an input that is a program is refused for want of memory alone
-wanting : (bytes : List ℕ) (refusal : InputRefusal) (v : Program) (rose : Type 0) → IsReadAs (Err refusal) bytes → IsProgram bytes v
+pub wanting : (bytes : List ℕ) (refusal : InputRefusal) (v : Program) (rose : Type 0) → IsReadAs (Err refusal) bytes → IsProgram bytes v
     → (refusal ≡ input.ReadFault → rose) → (rose → ⊥) → refusal ≡ input.Memory
 wanting bytes refusal v rose exact is fault none = of (exact (Ok v) is.short is.is_read)
   where
@@ -275,7 +273,7 @@ refused_status result refusal rose fell old new (inr (inl four)) said fault cut 
 refused_status result refusal rose fell old new (inr (inr (inl five))) said fault cut p q = absurd (q (cut five))
 refused_status result refusal rose fell old new (inr (inr (inr six))) said fault cut p q = inr six
 
-pub unread_status : (words : List (String Global)) (bytes : List ℕ) (status result : ℕ) (text line : List ℕ) (refusal : InputRefusal) (rose fell : Type 0) (old new : Option (List ℕ)) → IsArcs words
+pub unread_status : (words : List (String Global)) (bytes : List ℕ) (status result : ℕ) (text line : List ℕ) (refusal : InputRefusal) (rose fell : Type 0) (old new : Option (List ℕ)) → IsLawful words
     → IsAnswer words ⊥ bytes status text line → IsReadAs (Err refusal) bytes
     → (result ≡ 1) ⊎ ((result ≡ 4) ⊎ ((result ≡ 5) ⊎ (result ≡ 6)))
     → (result ≢ 5 → result ≢ 6 → (line : List ℕ) × IsSaid refusal result line × (new ≡ then_bytes old line))
@@ -286,5 +284,5 @@ unread_status words bytes status result text line refusal rose fell old new lawf
     refused_status result refusal rose fell old new h said fault cut p q
 unread_status words bytes status result text line refusal rose fell old new lawful (IsAnswer.refused l x is) exact h said memory fault cut p q =
     refused_status result refusal rose fell old new h said fault cut p q
-unread_status words bytes status result text line refusal rose fell old new lawful (IsAnswer.arcs l v t is table holds) exact h said memory fault cut p q =
+unread_status words bytes status result text line refusal rose fell old new lawful (IsAnswer.answered c l v t is holds) exact h said memory fault cut p q =
     inr (memory (wanting bytes refusal v rose exact is fault p))

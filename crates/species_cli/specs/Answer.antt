@@ -1,26 +1,21 @@
 -- What the program answers: for its words, the bytes that its input gave and its faults, a status, the text on its output and the
 -- line on its notes.
-use Rattle.std.specs.Prelude.{◌≡◌, ℕ, ◌≤◌, ◌<◌, List, [], Option, Some, Ok, Err, length, codes, String}
+use Rattle.std.specs.Prelude.{◌≡◌, ℕ, ◌≤◌, ◌<◌, List, [], Option, Some, Err, length, codes, String}
 use Rattle.std.specs.declared.alloc.Global.{Global}
 use Rattle.species_ast.specs.Limits.{most_bytes}
 use Rattle.species_ast.specs.declared.tree.Unit.{Unit as Program}
 use Rattle.species_io.specs.Told.{before, then_bytes, TookPart}
-use Rattle.species_reading.specs.Answers.{Answers, IsResolved}
+use Rattle.species_reading.specs.Answers.{Answers}
 use Rattle.species_reading.specs.declared.refusal.ProgramRefusal.{ProgramRefusal}
 use Rattle.species_reading.specs.declared.refusal.InputRefusal.{InputRefusal}
 use Rattle.species_reading.specs.declared.refusal.InputRefusal.TheVariants as input
-use Rattle.species_report.specs.Table.{IsTable}
-use Rattle.species_truth.specs.Truth.{IsTrueTable}
-use Rattle.species_words.specs.CommandLines.{IsCommandLine}
-use Rattle.species_words.specs.declared.Command.TheVariants as command
+use Rattle.species_cli.specs.declared.command.ProgramCommand.{ProgramCommand}
+use Rattle.species_cli.specs.Commands.{IsLineOf, IsLawful}
 use Rattle.species_cli.specs.Statuses.{status_answered, status_refused, status_usage, status_read_fault}
 use Rattle.species_cli.specs.Refusals.{refusal_line, too_long_line}
+use Rattle.species_cli.specs.Texts.{IsProgram, IsTextOf}
 
--- ---- the words
-
--- The words are a lawful command line of `arcs`, the one command that is built today.
-abbrev pub IsArcs : List (String Global) → Type 0
-IsArcs words = IsCommandLine words command.Arcs
+-- ---- lines
 
 abbrev pub usage_line : List ℕ
 usage_line = codes "usage: species arcs|annotate|compile|check|run [--trace]|drill --nests N --from F\n"
@@ -29,11 +24,6 @@ abbrev pub read_fault_line : List ℕ
 read_fault_line = codes "read fault\n"
 
 -- ---- the bytes
-
--- They are a lawful program, which becomes this unit.
-pub record IsProgram (bytes : List ℕ) (program : Program) : Type 0 where
-  pub short : length bytes ≤ most_bytes
-  pub is_read : IsResolved bytes (Ok program)
 
 -- They are refused, with this line.
 pub record IsRefused (bytes line : List ℕ) : Type 0 where
@@ -47,11 +37,11 @@ pub record IsRefused (bytes line : List ℕ) : Type 0 where
 -- With these words and input bytes this status has this text on the output and this line on the notes; `rose` says that the
 -- input's count of faults rose.
 pub data IsAnswer (words : List (String Global)) (rose : Type 0) (bytes : List ℕ) : ℕ → List ℕ → List ℕ → Type 0 where
-  usage : (IsArcs words → ⊥) → IsAnswer words rose bytes status_usage [] usage_line
-  read_fault : IsArcs words → rose → IsAnswer words rose bytes status_read_fault [] read_fault_line
-  too_long : IsArcs words → most_bytes < length bytes → IsAnswer words rose bytes status_refused [] too_long_line
-  refused : IsArcs words → (line : List ℕ) → IsRefused bytes line → IsAnswer words rose bytes status_refused [] line
-  arcs : IsArcs words → (program : Program) (text : List ℕ) → IsProgram bytes program → IsTable program text → IsTrueTable program text
+  usage : (IsLawful words → ⊥) → IsAnswer words rose bytes status_usage [] usage_line
+  read_fault : IsLawful words → rose → IsAnswer words rose bytes status_read_fault [] read_fault_line
+  too_long : IsLawful words → most_bytes < length bytes → IsAnswer words rose bytes status_refused [] too_long_line
+  refused : IsLawful words → (line : List ℕ) → IsRefused bytes line → IsAnswer words rose bytes status_refused [] line
+  answered : (c : ProgramCommand) → IsLineOf words c → (program : Program) (text : List ℕ) → IsProgram bytes program → IsTextOf c program text
       → IsAnswer words rose bytes status_answered text []
 
 -- ---- what came and went

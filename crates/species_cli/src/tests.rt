@@ -101,6 +101,126 @@ fn tables(rt: HostRuntime) {
 }
 
 #[test]
+fn annotated(rt: HostRuntime) {
+    let cases: [(&[u8], &[u8]); 12] = [
+        (
+            b"int A[64];\nvoid k(void) {\n    for (int i = 1; i < 64; i++) {\n        A[i] = A[i - 1];\n    }\n}\n",
+            b"int A[64];\nvoid k(void) {\n    #pragma species sequential carried A 0 1\n    for (int i = 1; i < 64; i++) {\n        A[i] = A[i - 1];\n    }\n}\n",
+        ),
+        (
+            b"int A[128];\nvoid k(void) {\n    for (int i = 0; i < 64; i++) {\n        A[2 * i] = A[2 * i + 1];\n    }\n}\n",
+            b"int A[128];\nvoid k(void) {\n    #pragma species A[1:127]|element at (2*i+1) exact -> A[0:126]|element at (2*i) exact\n    for (int i = 0; i < 64; i++) {\n        A[2 * i] = A[2 * i + 1];\n    }\n}\n",
+        ),
+        (
+            b"int A[256];\nvoid k(void) {\n    for (int i = 0; i < 64; i++) {\n        A[4 * i] = A[2 * i + 1];\n    }\n}\n",
+            b"int A[256];\nvoid k(void) {\n    #pragma species A[1:127]|element at (2*i+1) exact -> A[0:252]|element at (4*i) exact\n    for (int i = 0; i < 64; i++) {\n        A[4 * i] = A[2 * i + 1];\n    }\n}\n",
+        ),
+        (
+            b"int A[128];\nvoid k(void) {\n    for (int i = 0; i < 64; i++) {\n        A[i] = A[i + 64];\n    }\n}\n",
+            b"int A[128];\nvoid k(void) {\n    #pragma species A[64:127]|element at (i+64) exact -> A[0:63]|element at (i) exact\n    for (int i = 0; i < 64; i++) {\n        A[i] = A[i + 64];\n    }\n}\n",
+        ),
+        (
+            b"int A[129];\nvoid k(void) {\n    for (int i = 0; i < 65; i++) {\n        A[i] = A[i + 64];\n    }\n}\n",
+            b"int A[129];\nvoid k(void) {\n    #pragma species sequential carried A 0 1\n    for (int i = 0; i < 65; i++) {\n        A[i] = A[i + 64];\n    }\n}\n",
+        ),
+        (
+            b"int A[65];\nvoid k(void) {\n    for (int i = 0; i < 64; i++) {\n        A[i] = A[i + 1];\n    }\n}\n",
+            b"int A[65];\nvoid k(void) {\n    #pragma species sequential carried A 0 1\n    for (int i = 0; i < 64; i++) {\n        A[i] = A[i + 1];\n    }\n}\n",
+        ),
+        (
+            b"int A[4];\nvoid k(void) {\n    int n = 0;\n    for (int i = 0; i < 4; i++) {\n        n = n + 1;\n        A[i] = n;\n    }\n}\n",
+            b"int A[4];\nvoid k(void) {\n    int n = 0;\n    #pragma species sequential local n\n    for (int i = 0; i < 4; i++) {\n        n = n + 1;\n        A[i] = n;\n    }\n}\n",
+        ),
+        (
+            b"int A[4][4];\nvoid k(void) {\n    int n = 0;\n    for (int i = 0; i < 4; i++) {\n        n = n + 1;\n        for (int j = 0; j < 4; j++) {\n            A[i][j] = n;\n        }\n    }\n}\n",
+            b"int A[4][4];\nvoid k(void) {\n    int n = 0;\n    #pragma species sequential local n\n    for (int i = 0; i < 4; i++) {\n        n = n + 1;\n        #pragma species none -> A[i:i,0:3]|element at (i,j) exact\n        for (int j = 0; j < 4; j++) {\n            A[i][j] = n;\n        }\n    }\n}\n",
+        ),
+        (
+            b"int A[4];\nvoid k(void) {\n    for (int i = 0; i < 1; i++) {\n        A[0] = 5;\n    }\n}\n",
+            b"int A[4];\nvoid k(void) {\n    #pragma species none -> A[0:0]|element at (0) exact\n    for (int i = 0; i < 1; i++) {\n        A[0] = 5;\n    }\n}\n",
+        ),
+        (
+            b"int A[4];\nvoid k(void) {\n    for (int i = 0; i < 0; i++) {\n        A[0] = 5;\n    }\n}\n",
+            b"int A[4];\nvoid k(void) {\n    #pragma species none -> A[0:0]|element at (0) exact\n    for (int i = 0; i < 0; i++) {\n        A[0] = 5;\n    }\n}\n",
+        ),
+        (
+            b"int A[64][64];\nvoid k(void) {\n    for (int i = 0; i < 64; i++) {\n        for (int j = i; j < 64; j++) {\n            A[i][j] = 1;\n        }\n    }\n}\n",
+            b"int A[64][64];\nvoid k(void) {\n    #pragma species none -> A[0:63,0:63]|chunk(-,0:63) at (i,0) within\n    for (int i = 0; i < 64; i++) {\n        for (int j = i; j < 64; j++) {\n            A[i][j] = 1;\n        }\n    }\n}\n",
+        ),
+        (
+            b"int A[64][64];\nint B[64][64];\nint C[64][64];\nvoid f(void) {\n    for (int i = 0; i < 64; i++) {\n        for (int j = 0; j < 64; j++) {\n            C[i][j] = 0;\n            for (int k = 0; k < 64; k++) {\n                C[i][j] += A[i][k] * B[k][j];\n            }\n        }\n    }\n}\n",
+            b"int A[64][64];\nint B[64][64];\nint C[64][64];\nvoid f(void) {\n    #pragma species C[0:63,0:63]|element at (i,j) exact ^ A[0:63,0:63]|chunk(-,0:63) at (i,0) exact ^ B[0:63,0:63]|chunk(0:63,-) at (0,j) exact -> C[0:63,0:63]|element at (i,j) exact\n    for (int i = 0; i < 64; i++) {\n        for (int j = 0; j < 64; j++) {\n            C[i][j] = 0;\n            for (int k = 0; k < 64; k++) {\n                C[i][j] += A[i][k] * B[k][j];\n            }\n        }\n    }\n}\n",
+        ),
+    ];
+    let alloc = rt.alloc();
+    for (text, output) in cases {
+        let input = Vec::from_slice(alloc, text).expect(&rt, "memory");
+        let got = run(alloc, &["species", "annotate"], input, PLAIN).expect(&rt, "memory");
+        assert_eq!(rt; got.0, 0, "status");
+        assert!(rt; got.1.bytes() == output, "output");
+        assert!(rt; got.2.bytes().is_empty(), "notes");
+    }
+}
+
+#[test]
+fn annotated_sums_and_inner_loops(rt: HostRuntime) {
+    let cases: [(&[u8], &[u8]); 11] = [
+        (
+            b"unsigned h[256];\nint img[4096];\nvoid k(void) {\n    for (int i = 0; i < 4096; i++) {\n        h[img[i]]++;\n    }\n}\n",
+            b"unsigned h[256];\nint img[4096];\nvoid k(void) {\n    #pragma species img[0:4095]|element at (i) exact -> h[0:255]|shared(0:255) at (0) within\n    for (int i = 0; i < 4096; i++) {\n        h[img[i]] += 1;\n    }\n}\n",
+        ),
+        (
+            b"unsigned h[4];\nvoid k(void) {\n    for (int i = 0; i < 8; i++) {\n        h[i & 3] += i;\n        h[0] += 1u;\n    }\n}\n",
+            b"unsigned h[4];\nvoid k(void) {\n    #pragma species none -> h[0:3]|shared(0:3) at (0) within\n    for (int i = 0; i < 8; i++) {\n        h[i & 3] += i;\n        h[0] += 1u;\n    }\n}\n",
+        ),
+        (
+            b"int s[1];\nint A[64];\nvoid k(void) {\n    for (int i = 0; i < 64; i++) {\n        s[0] += A[i];\n    }\n}\n",
+            b"int s[1];\nint A[64];\nvoid k(void) {\n    #pragma species sequential carried s 0 2\n    for (int i = 0; i < 64; i++) {\n        s[0] += A[i];\n    }\n}\n",
+        ),
+        (
+            b"unsigned s[1];\nunsigned A[64];\nvoid k(void) {\n    for (int i = 0; i < 64; i++) {\n        s[0] += A[i];\n    }\n}\n",
+            b"unsigned s[1];\nunsigned A[64];\nvoid k(void) {\n    #pragma species A[0:63]|element at (i) exact -> s[0:0]|shared(-) at (0) exact\n    for (int i = 0; i < 64; i++) {\n        s[0] += A[i];\n    }\n}\n",
+        ),
+        (
+            b"unsigned s[1];\nunsigned A[64];\nunsigned B[64];\nvoid k(void) {\n    for (int i = 0; i < 64; i++) {\n        s[0] += A[i];\n        B[i] = s[0];\n    }\n}\n",
+            b"unsigned s[1];\nunsigned A[64];\nunsigned B[64];\nvoid k(void) {\n    #pragma species sequential carried s 0 2\n    for (int i = 0; i < 64; i++) {\n        s[0] += A[i];\n        B[i] = s[0];\n    }\n}\n",
+        ),
+        (
+            b"int A[64];\nint B[64];\nvoid k(void) {\n    for (int t = 0; t < 10; t++) {\n        for (int i = 1; i < 63; i++) {\n            B[i] = A[i - 1] + A[i + 1];\n        }\n        for (int j = 1; j < 63; j++) {\n            A[j] = B[j];\n        }\n    }\n}\n",
+            b"int A[64];\nint B[64];\nvoid k(void) {\n    #pragma species sequential carried A 0 4\n    for (int t = 0; t < 10; t++) {\n        #pragma species A[0:63]|neighbourhood(-1:1:2) at (i) exact -> B[1:62]|element at (i) exact\n        for (int i = 1; i < 63; i++) {\n            B[i] = A[i - 1] + A[i + 1];\n        }\n        #pragma species B[1:62]|element at (j) exact -> A[1:62]|element at (j) exact\n        for (int j = 1; j < 63; j++) {\n            A[j] = B[j];\n        }\n    }\n}\n",
+        ),
+        (
+            b"int X[10][64];\nvoid k(void) {\n    for (int t = 1; t < 10; t++) {\n        for (int i = 0; i < 64; i++) {\n            X[t][i] = X[t - 1][i];\n        }\n    }\n}\n",
+            b"int X[10][64];\nvoid k(void) {\n    #pragma species sequential carried X 0 1\n    for (int t = 1; t < 10; t++) {\n        #pragma species X[t-1:t-1,0:63]|element at (t-1,i) exact -> X[t:t,0:63]|element at (t,i) exact\n        for (int i = 0; i < 64; i++) {\n            X[t][i] = X[t - 1][i];\n        }\n    }\n}\n",
+        ),
+        (
+            b"int A[64];\nint B[64];\nint C[64];\nvoid k(void) {\n    for (int i = 0; i < 64; i++) {\n        B[i] = A[i];\n    }\n    for (int j = 0; j < 64; j++) {\n        C[j] = B[j];\n    }\n}\n",
+            b"int A[64];\nint B[64];\nint C[64];\nvoid k(void) {\n    #pragma species A[0:63]|element at (i) exact -> B[0:63]|element at (i) exact\n    for (int i = 0; i < 64; i++) {\n        B[i] = A[i];\n    }\n    #pragma species B[0:63]|element at (j) exact -> C[0:63]|element at (j) exact\n    for (int j = 0; j < 64; j++) {\n        C[j] = B[j];\n    }\n}\n",
+        ),
+        (
+            b"int A[4096][4096];\nvoid f(void) {\n    for (int i = 0; i < 4096; i++) {\n        for (int j = 0; j < 4096; j++) {\n            for (int k = 0; k < 4096; k++) {\n                for (int l = 0; l < 4096; l++) {\n                    A[i][j] = A[i][j] + 1;\n                }\n            }\n        }\n    }\n}\n",
+            b"int A[4096][4096];\nvoid f(void) {\n    #pragma species A[0:4095,0:4095]|element at (i,j) exact -> A[0:4095,0:4095]|element at (i,j) exact\n    for (int i = 0; i < 4096; i++) {\n        for (int j = 0; j < 4096; j++) {\n            for (int k = 0; k < 4096; k++) {\n                for (int l = 0; l < 4096; l++) {\n                    A[i][j] = A[i][j] + 1;\n                }\n            }\n        }\n    }\n}\n",
+        ),
+        (
+            b"int A[16777216];\nvoid k(void) {\n    for (int i = 0; i < 1073741824; i++) {\n        A[i] = A[i + 1073741824];\n    }\n}\n",
+            b"int A[16777216];\nvoid k(void) {\n    #pragma species A[1073741824:2147483647]|element at (i+1073741824) exact -> A[0:1073741823]|element at (i) exact\n    for (int i = 0; i < 1073741824; i++) {\n        A[i] = A[i + 1073741824];\n    }\n}\n",
+        ),
+        (
+            b"int A[4],B[4];void k(){\n#pragma species none -> none\nfor(int i=0;i<4;i++)if(A[0]){\n#pragma omp parallel for\nfor(int j=0;j<4;++j)A[j]=1;}}",
+            b"int A[4];\nint B[4];\nvoid k(void) {\n    #pragma species sequential carried A 0 1\n    for (int i = 0; i < 4; i++) {\n        if (A[0]) {\n            #pragma species none -> A[0:3]|element at (j) exact\n            for (int j = 0; j < 4; j++) {\n                A[j] = 1;\n            }\n        }\n    }\n}\n",
+        ),
+    ];
+    let alloc = rt.alloc();
+    for (text, output) in cases {
+        let input = Vec::from_slice(alloc, text).expect(&rt, "memory");
+        let got = run(alloc, &["species", "annotate"], input, PLAIN).expect(&rt, "memory");
+        assert_eq!(rt; got.0, 0, "status");
+        assert!(rt; got.1.bytes() == output, "output");
+        assert!(rt; got.2.bytes().is_empty(), "notes");
+    }
+}
+
+#[test]
 fn refusals(rt: HostRuntime) {
     let cases: [(&[u8], &[u8]); 14] = [
         (b"int A[4]; @", b"refused 1 BadByte at 10\n"),
