@@ -21,7 +21,6 @@ use Rattle.species_ast.proofs.Induction.{Each}
 use Rattle.species_depend.specs.Carried.{AreAsked}
 use Rattle.species_depend.specs.Refuted.{IsSubscriptOver}
 use Rattle.species_linear.specs.Box.{HasSmallEnds}
-use Rattle.species_linear.specs.Point.{IsShort}
 use Rattle.species_linear.specs.Rising.{IsRisingFrom}
 use Rattle.species_linear.specs.Value.{coefficient_at}
 use Rattle.species_linear.specs.declared.forms.Term.{Term}
@@ -190,12 +189,6 @@ nest_asked u head path refs front level well stands shown within below =
     (all_known u (length path + 1) (path ++ shares.0) refs (references.references_of (adds_of []) head [] path 1) shown (standing_placed (adds_of []) u head path [] 1 well stands) shares.2)
 
 -- ---- the ranges around a loop of a unit
-
-path_short : (path : List LoopRange) → length (ranges_seen path) ≤ 8 → IsShort path
-path_short path h = omega (arith, length-map path range_seen, h)
-
-pub stands_short : (path : List LoopRange) (k : ℕ) → length (ranges_seen path) ≤ k → k ≤ 8 → IsShort path
-stands_short path k h few = path_short path (omega (arith, h, few))
 
 pub sound_path : (path : List LoopRange) → Each IsSound (ranges_seen path) → All HasSmallEnds path
 sound_path path h = each_to_all HasSmallEnds path (small_ends path h)
