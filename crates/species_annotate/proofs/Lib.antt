@@ -1,2 +1,5 @@
 mod HeadLemmas
+mod MadeLemmas
+mod NameLemmas
+mod SourceLemmas
 mod WalkLemmas

@@ -55,8 +55,8 @@ left_end all i s k left rest past h = h ∙ ap (λ l. heads_in_list l s (k + i) 
 -- ---- what statements become
 
 become_one_more : (u : Program) (w : Around) (xs ys : List Stmt) (x y : Stmt) → BecomeAll u w xs ys → BecomesStmt u w x y → BecomeAll u w (xs ++ x ∷ []) (ys ++ y ∷ [])
-become_one_more u w [] [] x y (none w) k = more w x y [] [] k (none w)
-become_one_more u w (a ∷ xs) (b ∷ ys) x y (more w a b xs ys h hs) k = more w a b (xs ++ x ∷ []) (ys ++ y ∷ []) h (become_one_more u w xs ys x y hs k)
+become_one_more u w xs ys x y (none _) k = more w x y [] [] k (none w)
+become_one_more u w xs ys x y (more _ a b rest others h hs) k = more w a b (rest ++ x ∷ []) (others ++ y ∷ []) h (become_one_more u w rest others x y hs k)
 
 pub become_next : (u : Program) (w : Around) (all : List Stmt) (i : ℕ) (x y : Stmt) (old new : List Stmt) → x ≡ get_or all i x → i < length all → new ≡ old ++ y ∷ []
     → BecomeAll u w (take i all) old → BecomesStmt u w x y → BecomeAll u w (take (i + 1) all) new
