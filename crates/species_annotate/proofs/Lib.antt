@@ -1,3 +1,4 @@
+mod FoldLemmas
 mod HeadLemmas
 mod MadeLemmas
 mod NameLemmas

@@ -11,7 +11,7 @@ use Rattle.species_ast.specs.declared.tree.Stmt.TheVariants as stmt
 use Rattle.species_ast.specs.declared.tree.Loop.{Loop, roll-Loop, fold-Loop}
 use Rattle.species_ast.specs.declared.tree.Unit.{Unit as Program}
 use Rattle.species_ast.specs.Marks.{all_true, test_step, test_layer, is_plain, unmarked_stmt, IsUnmarked}
-use Rattle.species_ast.specs.Strip.{strip_step, strip_layer, strip_stmt, strip_loop, source_of}
+use Rattle.species_ast.specs.Strip.{strip_step, strip_loop, source_of}
 use Rattle.species_ast.specs.Run.{locals_at, locals_of}
 use Rattle.species_ast.specs.Scope.References.{HasReadSize}
 use Rattle.species_ast.specs.Scope.Nests.{Bounds, only_loops, front_with, is_parallel, is_bad_mark}
@@ -22,48 +22,15 @@ use Rattle.species_ast.specs.Scope.WellMade.{Around, Made, made, made_at, made_l
 use Rattle.species_ast.proofs.Folds.{fold_stmt-Assign, fold_stmt-AddTo, fold_stmt-Declare, fold_stmt-SetLocal, fold_stmt-If, fold_stmt-For, fold_stmt-Block, fold_loop}
 use Rattle.species_ast.proofs.Induction.{Each, each_all, stmt_ind}
 use Rattle.species_ast.proofs.StripKeeps.{Stays, strip-larger_than}
-
-abbrev bare : Stmt → Stmt
-bare = strip_stmt false
-
-abbrev layer : Loop-F Stmt Loop → Loop
-layer = strip_layer false
-
-abbrev bare_layer : {X Y : Type 0} → Loop-F X Y → Loop-F X Y
-bare_layer l = record l { line = None; mark = Plain }
-
-abbrev with_body : {X Y Z W : Type 0} → Loop-F X Y → List Z → Loop-F Z W
-with_body l body = record { place = l.place; iter = l.iter; start = l.start; test = l.test; limit = l.limit; step = l.step; body = body; line = l.line; mark = l.mark }
+use Rattle.species_annotate.proofs.FoldLemmas.{bare, layer, bare_layer, with_body, mapped, bare_fold}
 
 -- ---- locals
 
 abbrev inner_locals : Loop-F (List ℕ) (List ℕ) → List ℕ
 inner_locals l = flat_map (λ xs. xs) l.body
 
-mapped : {X : Type 0} (f : Stmt → X) (xs : List Stmt) → Each (λ x. f (bare x) ≡ f x) xs → map f (map bare xs) ≡ map f xs
-mapped f [] h = refl
-mapped f (x ∷ xs) h = λ i. h.0 i ∷ mapped f xs h.1 i
-
 locals_same : (s : Stmt) → locals_of (bare s) ≡ locals_of s
-locals_same =
-    let rolled : (f : Stmt-F Stmt Loop) → _ = fold-roll-Stmt (List ℕ) (List ℕ) locals_at inner_locals in
-    stmt_ind _ (record {
-      assign = λ place a subs value. ap locals_of (fold_stmt-Assign strip_step layer place a subs value) ∙ rolled (Stmt-F.Assign place a subs value) ∙ sym (fold_stmt-Assign locals_at inner_locals place a subs value);
-      add_to = λ place a subs value atomic. ap locals_of (fold_stmt-AddTo strip_step layer place a subs value atomic) ∙ rolled (Stmt-F.AddTo place a subs value false) ∙ sym (fold_stmt-AddTo locals_at inner_locals place a subs value atomic);
-      declare = λ place n init. ap locals_of (fold_stmt-Declare strip_step layer place n init) ∙ rolled (Stmt-F.Declare place n init) ∙ sym (fold_stmt-Declare locals_at inner_locals place n init);
-      set_local = λ place n value. ap locals_of (fold_stmt-SetLocal strip_step layer place n value) ∙ rolled (Stmt-F.SetLocal place n value) ∙ sym (fold_stmt-SetLocal locals_at inner_locals place n value);
-      choice = λ place c body otherwise h k.
-          ap locals_of (fold_stmt-If strip_step layer place c body otherwise) ∙ rolled (Stmt-F.If place c (map bare body) (map bare otherwise))
-          ∙ (λ i. locals_at (Stmt-F.If place c (mapped locals_of body h i) (mapped locals_of otherwise k i))) ∙ sym (fold_stmt-If locals_at inner_locals place c body otherwise);
-      loop = λ l h.
-          ap locals_of (fold_stmt-For strip_step layer (roll-Loop l)) ∙ rolled (Stmt-F.For (strip_loop false (roll-Loop l)))
-          ∙ ap (λ z. locals_at (Stmt-F.For z)) (ap (fold-Loop (List ℕ) (List ℕ) locals_at inner_locals) (fold_loop strip_step layer l)
-          ∙ fold_loop locals_at inner_locals (bare_layer (with_body l (map bare l.body))) ∙ ap (flat_map (λ xs. xs)) (mapped locals_of l.body h) ∙ sym (fold_loop locals_at inner_locals l))
-          ∙ sym (fold_stmt-For locals_at inner_locals (roll-Loop l));
-      block = λ body h.
-          ap locals_of (fold_stmt-Block strip_step layer body) ∙ rolled (Stmt-F.Block (map bare body)) ∙ ap (λ b. locals_at (Stmt-F.Block b)) (mapped locals_of body h)
-          ∙ sym (fold_stmt-Block locals_at inner_locals body);
-    })
+locals_same = bare_fold locals_at inner_locals (λ place a subs value atomic. refl) (λ l. refl)
 
 -- ---- statements without marks
 

@@ -1,15 +1,20 @@
 -- The names of the iterators of a band, loop by loop.
 use Rattle.std.proofs.Common.{◌≡◌, refl, ap, sym, ◌∙◌, subst, arith, ℕ, zero, suc, ◌+◌, ◌-◌, ◌<◌, ◌≤◌, Bool, List, [], ◌∷◌, ◌++◌, map, take, take_all, length, get_or, append_assoc, append-nil, Option, Some, None}
+use Rattle.std.specs.Prelude.{MatchOption}
 use Rattle.std.proofs.lemmas.List.{map-append, take_more}
+use Rattle.species_arcs.specs.declared.plans.Nest.{Nest}
 use Rattle.species_ast.specs.declared.tree.Expr.{Expr}
 use Rattle.species_ast.specs.declared.tree.Loop.{Loop, out-Loop}
 use Rattle.species_ast.specs.declared.tree.Stmt.{Stmt}
 use Rattle.species_ast.specs.declared.tree.Stmt.TheVariants as stmt
+use Rattle.species_ast.specs.declared.tree.Unit.{Unit as Program}
+use Rattle.species_ast.specs.Line.{Line}
 use Rattle.species_ast.proofs.Paras.{para_stmt-Assign, para_stmt-AddTo, para_stmt-Declare, para_stmt-SetLocal, para_stmt-If}
 use Rattle.species_nests.specs.Nests.{Placed, sole_at, sole, only, nest_in, nest_of}
 use Rattle.species_nests.proofs.NestLaws.{under, no_loops, sole-For, sole-Block}
 use Rattle.species_notation.specs.declared.given.Names.{Names}
-use Rattle.species_annotate.specs.Annotated.{iterators_of, band_names}
+use Rattle.species_notation.specs.Written.{line_text}
+use Rattle.species_annotate.specs.Annotated.{Around, iterators_of, band_names, names_in, plan_line}
 
 -- ---- lists
 
@@ -33,9 +38,15 @@ longer [] y = refl
 longer (x ∷ xs) y = ap suc (longer xs y)
 
 -- the last is gone, which stands behind so many
-pub taken_less : (n : ℕ) (first old new : List (List ℕ)) (last : List ℕ) → take n old ≡ take n first → n < length old → old ≡ new ++ last ∷ [] → take n new ≡ take n first
+taken_less : (n : ℕ) (first old new : List (List ℕ)) (last : List ℕ) → take n old ≡ take n first → n < length old → old ≡ new ++ last ∷ [] → take n new ≡ take n first
 taken_less n first old new last h more is =
     sym (take_front n new last (omega (arith, more, ap length is, longer new last))) ∙ ap (take n) (sym is) ∙ h
+
+-- what is left where one is taken from the end
+pub popped : (n : ℕ) (first old new : List (List ℕ)) (o : Option (List ℕ)) → MatchOption o ((old ≡ []) × (new ≡ [])) (λ last. old ≡ new ++ last ∷ []) → n < length old → take n old ≡ take n first
+    → (take n new ≡ take n first) × (length new < length old)
+popped n first old new None h more is = absurd (omega (arith, more, ap length h.0))
+popped n first old new (Some last) h more is = (taken_less n first old new last is more h, omega (arith, ap length h, longer new last))
 
 pub taken_end : (n : ℕ) (first old : List (List ℕ)) → take n old ≡ take n first → length old ≤ n → old ≡ take n first
 taken_end n first old h few = sym (take_all n old few) ∙ h
@@ -117,3 +128,20 @@ set_names d x place n value at is = other_names d x at (ap sole is ∙ para_stmt
 
 pub if_names : (d : ℕ) (x : Stmt) (place : ℕ) (test : Expr) (body otherwise : List Stmt) (at : List ℕ) → x ≡ stmt.If place test body otherwise → iterators_of (nest_in d (x ∷ []) at).loops ≡ []
 if_names d x place test body otherwise at is = other_names d x at (ap sole is ∙ para_stmt-If sole_at no_loops place test body otherwise)
+
+-- ---- lines
+
+-- going out again
+pub names_back : (old mid now new : Names) (more : List (List ℕ)) (level : ℕ) → level ≡ length old.iters → Adds old mid more → now ≡ mid → new ≡ record now { iters = take level now.iters } → new ≡ old
+names_back old mid now new more level size added same left =
+    left ∙ (λ i. record ((same ∙ added) i) { iters = take (size i) ((same ∙ added) i).iters })
+    ∙ ap (λ l. record old { iters = l }) (level_left old.iters (old.iters ++ more) more refl)
+
+-- with the names of the band, those of the loops around it stand before them
+pub names_more : (u : Program) (iters more : List (List ℕ)) (old new : Names) → old ≡ names_in u iters → Adds old new more → new ≡ names_in u (iters ++ more)
+names_more u iters more old new is added = added ∙ ap (λ (n : Names). record n { iters = n.iters ++ more }) is
+
+pub line_is : (u : Program) (w : Around) (head : Loop) (nest : Nest) (old mid : Names) (text : List ℕ) (line : Line) → Adds old mid (band_names nest.depth head []) → text ≡ line_text mid nest
+    → line ≡ record { text = text; place = (out-Loop head).place } → old ≡ names_in u w.iters → line ≡ plan_line u w head nest
+line_is u w head nest old mid text line added written made is =
+    made ∙ ap (λ (t : List ℕ). record { text = t; place = (out-Loop head).place }) (written ∙ ap (λ (n : Names). line_text n nest) (names_more u w.iters (band_names nest.depth head []) old mid is added))
