@@ -1,7 +1,7 @@
 -- The loops in each kind of statement, where it fits.
 use Rattle.std.proofs.Common.{◌≡◌, ◌∙◌, refl, sym, ap, subst, arith, ℕ, zero, suc, ◌+◌, ◌<◌, ◌≤◌, List, [], ◌∷◌, ◌++◌, map, drop, take, take_all, length, get_or, Bool, true, false, ◌&&◌, not, nat_lt, Option, Some, append_assoc, append-nil}
 use Rattle.std.specs.List.{Contains}
-use Rattle.std.specs.Prelude.{slice_get}
+use Rattle.std.specs.Prelude.{slice_get, is_some, IfSome}
 use Rattle.std.proofs.lemmas.Bool.{and_parts, and_from}
 use Rattle.std.proofs.lemmas.Bool.Decides.{nat_tests}
 use Rattle.std.proofs.lemmas.List.{map-append}
@@ -11,7 +11,7 @@ use Rattle.species_ast.specs.declared.tree.Stmt.TheVariants as stmt
 use Rattle.species_ast.specs.declared.tree.Loop.{Loop, out-Loop, roll-out-Loop}
 use Rattle.species_ast.specs.declared.tree.Unit.{Unit as Program}
 use Rattle.species_ast.specs.Scope.Hulls.{Range, range_of, passes_hull}
-use Rattle.species_ast.specs.Scope.Loops.{no_loops, Standing, numbered, standing_in, PlacedLoop, list_loops, loops_in, placed_loops}
+use Rattle.species_ast.specs.Scope.Loops.{no_loops, Standing, numbered, standing_in, PlacedLoop, list_loops, loops_in, outside_loops, placed_loops}
 use Rattle.species_ast.specs.Scope.WellMade.{Made, made, list_keeps, IsWellMade}
 use Rattle.species_ast.proofs.Folds.{fold_stmt-If, fold_stmt-For, fold_stmt-Block, fold_loop-out}
 use Rattle.species_occurrences.proofs.PositionLaws.{loops_in-Assign, loops_in-AddTo, loops_in-Declare, loops_in-SetLocal, loops_in-If, loops_in-For, loops_in-Block}
@@ -179,3 +179,19 @@ one_less all i = ap (λ n. drop n all) next ∙ go all i
     go [] (suc n) = refl
     go (x ∷ xs) zero = refl
     go (x ∷ xs) (suc n) = go xs n
+
+-- all that is found in the body of a unit
+pub all_placed : (u : Program) (p : List Stmt) (path : List Range) (old new : List Head) → IsWellMade u → p ≡ u.body → path ≡ [] → old ≡ [] → Finds p path old new → new ≡ heads_of u
+all_placed u p path old new well b outermost empty f =
+    f ((λ i. fits_in_list (b i) (outermost i)) ∙ body_fits u well) outside_loops 0 (sym outermost) ∙ (λ i. empty i ++ heads_in_list (b i) outside_loops 0)
+
+-- what is lent at a place
+pub item_there : {R : Type 0} (now : R → Head) (xs : List Head) (i : ℕ) (o : Option R) (x : R) → o ≡ Some x → is_some o ≡ nat_lt i (length xs) → IfSome o (λ y. now y ≡ get_or xs i (now y)) → slice_get xs i ≡ Some (now x)
+item_there {R} now xs i o x is within there =
+    let some : true ≡ nat_lt i (length xs) = subst (λ (z : Option R). is_some z ≡ nat_lt i (length xs)) is within in
+    go xs i (now x) (grind (arith, nat_tests, some)) (subst (λ (z : Option R). IfSome z (λ y. now y ≡ get_or xs i (now y))) is there)
+  where
+    go : (ys : List Head) (n : ℕ) (h : Head) → n < length ys → h ≡ get_or ys n h → slice_get ys n ≡ Some h
+    go [] n h b e = absurd (omega (arith, b))
+    go (y ∷ ys) zero h b e = ap Some (sym e)
+    go (y ∷ ys) (suc n) h b e = go ys n h (omega (arith, b)) e

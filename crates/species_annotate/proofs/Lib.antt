@@ -3,4 +3,7 @@ mod HeadLemmas
 mod MadeLemmas
 mod NameLemmas
 mod SourceLemmas
+mod SpeltLemmas
+mod TextLemmas
+mod UnitLemmas
 mod WalkLemmas

@@ -70,6 +70,9 @@ adds_none old more none = ap (λ l. record old { iters = l }) (sym (append-nil o
 pub adds_same : (old new : Names) (more other : List (List ℕ)) → more ≡ other → Adds old new more → Adds old new other
 adds_same old new more other is h = h ∙ ap (λ l. record old { iters = old.iters ++ l }) is
 
+pub adds_from : (old mid new : Names) (more : List (List ℕ)) → mid ≡ old → Adds mid new more → Adds old new more
+adds_from old mid new more same h = h ∙ ap (λ (n : Names). record n { iters = n.iters ++ more }) same
+
 pub band_none : (depth : ℕ) (head : Loop) (at : List ℕ) → depth ≡ 0 → band_names depth head at ≡ []
 band_none depth head at none = ap (λ n. band_names n head at) none
 
