@@ -1,7 +1,8 @@
 -- The loops in each kind of statement, where it fits.
-use Rattle.std.proofs.Common.{◌≡◌, ◌∙◌, refl, sym, ap, subst, arith, ℕ, zero, suc, ◌+◌, ◌<◌, ◌≤◌, List, [], ◌∷◌, ◌++◌, map, drop, take, take_all, length, get_or, Bool, true, false, ◌&&◌, not, nat_lt, Option, append_assoc, append-nil}
+use Rattle.std.proofs.Common.{◌≡◌, ◌∙◌, refl, sym, ap, subst, arith, ℕ, zero, suc, ◌+◌, ◌<◌, ◌≤◌, List, [], ◌∷◌, ◌++◌, map, drop, take, take_all, length, get_or, Bool, true, false, ◌&&◌, not, nat_lt, Option, Some, append_assoc, append-nil}
 use Rattle.std.specs.List.{Contains}
-use Rattle.std.proofs.lemmas.Bool.{and_parts}
+use Rattle.std.specs.Prelude.{slice_get, is_some, IfSome}
+use Rattle.std.proofs.lemmas.Bool.{and_parts, and_from}
 use Rattle.std.proofs.lemmas.Bool.Decides.{nat_tests}
 use Rattle.std.proofs.lemmas.List.{map-append}
 use Rattle.species_ast.specs.declared.tree.Expr.{Expr}
@@ -10,24 +11,26 @@ use Rattle.species_ast.specs.declared.tree.Stmt.TheVariants as stmt
 use Rattle.species_ast.specs.declared.tree.Loop.{Loop, out-Loop, roll-out-Loop}
 use Rattle.species_ast.specs.declared.tree.Unit.{Unit as Program}
 use Rattle.species_ast.specs.Scope.Hulls.{Range, range_of, passes_hull}
-use Rattle.species_ast.specs.Scope.Loops.{Standing, numbered, standing_in, PlacedLoop, list_loops, loops_in, placed_loops}
+use Rattle.species_ast.specs.Scope.Loops.{no_loops, Standing, numbered, standing_in, PlacedLoop, list_loops, loops_in, outside_loops, placed_loops}
+use Rattle.species_ast.specs.Scope.WellMade.{Made, made, list_keeps, IsWellMade}
 use Rattle.species_ast.proofs.Folds.{fold_stmt-If, fold_stmt-For, fold_stmt-Block, fold_loop-out}
 use Rattle.species_occurrences.proofs.PositionLaws.{loops_in-Assign, loops_in-AddTo, loops_in-Declare, loops_in-SetLocal, loops_in-If, loops_in-For, loops_in-Block}
 use Rattle.species_classify.specs.Places.{StandsIn}
+use Rattle.species_ranges.proofs.KeepLaws.{keeps_fits}
 use Rattle.species_ranges.specs.Fitting.{fits_at, fits_within, fits_in, fits_in_list, fits_in_loop}
 use Rattle.species_annotate.specs.Loops.{Head, head_at, heads_in, heads_in_list, heads_inside, heads_of}
 
 -- ---- lists
 
-pub heads_more : (all : List Stmt) (i : ℕ) (x : Stmt) (s : Standing) (k : ℕ) → x ≡ get_or all i x → i < length all
-    → heads_in_list (take (i + 1) all) s k ≡ heads_in_list (take i all) s k ++ heads_in x (numbered s (k + i))
+heads_more : (all : List Stmt) (i : ℕ) (x : Stmt) (s : Standing) (k : ℕ) → x ≡ get_or all i x → i < length all
+    → heads_in_list (take (suc i) all) s k ≡ heads_in_list (take i all) s k ++ heads_in x (numbered s (k + i))
 heads_more [] i x s k at within = absurd (omega (arith, within))
 heads_more (y ∷ all) zero x s k at within =
     let here : k ≡ k + 0 = omega arith in
     ap (map head_at) (append-nil (loops_in y (numbered s k))) ∙ (λ i. heads_in (sym at i) (numbered s (here i)))
 heads_more (y ∷ all) (suc i) x s k at within =
     let next : suc k + i ≡ k + suc i = omega arith in
-    map-append head_at (loops_in y (numbered s k)) (list_loops (map loops_in (take (i + 1) all)) s (suc k))
+    map-append head_at (loops_in y (numbered s k)) (list_loops (map loops_in (take (suc i) all)) s (suc k))
     ∙ ap (λ l. heads_in y (numbered s k) ++ l) (heads_more all i x s (suc k) at (omega (arith, within)))
     ∙ sym (append_assoc (heads_in y (numbered s k)) (heads_in_list (take i all) s (suc k)) (heads_in x (numbered s (suc k + i))))
     ∙ (λ j. sym (map-append head_at (loops_in y (numbered s k)) (list_loops (map loops_in (take i all)) s (suc k))) j ++ heads_in x (numbered s (next j)))
@@ -35,8 +38,9 @@ heads_more (y ∷ all) (suc i) x s k at within =
 pub next_heads : (all : List Stmt) (i : ℕ) (x : Stmt) (s : Standing) (k : ℕ) (old now new : List Head) → x ≡ get_or all i x → i < length all
     → now ≡ old ++ heads_in_list (take i all) s k → new ≡ now ++ heads_in x (numbered s (k + i)) → new ≡ old ++ heads_in_list (take (i + 1) all) s k
 next_heads all i x s k old now new at within h e =
+    let one : suc i ≡ i + 1 = omega arith in
     e ∙ ap (λ l. l ++ heads_in x (numbered s (k + i))) h ∙ append_assoc old (heads_in_list (take i all) s k) (heads_in x (numbered s (k + i)))
-    ∙ ap (λ l. old ++ l) (sym (heads_more all i x s k at within))
+    ∙ ap (λ l. old ++ l) (sym (heads_more all i x s k at within)) ∙ ap (λ n. old ++ heads_in_list (take n all) s k) one
 
 pub all_heads : (all : List Stmt) (i : ℕ) (s : Standing) (k : ℕ) (old new : List Head) → length all ≤ i → new ≡ old ++ heads_in_list (take i all) s k → new ≡ old ++ heads_in_list all s k
 all_heads all i s k old new past h = h ∙ ap (λ xs. old ++ heads_in_list xs s k) (take_all i all past)
@@ -128,3 +132,66 @@ loop_heads head p path next old now new b added entering f h s at =
     not_true : (t : Bool) → not t ≡ true → t ≡ false
     not_true true e = absurd cc
     not_true false e = refl
+
+-- ---- units
+
+-- the body of a well made unit fits
+pub body_fits : (u : Program) → IsWellMade u → fits_in_list u.body [] ≡ true
+body_fits u well = go u.body well.limits
+  where
+    go : (xs : List Stmt) → list_keeps (map made xs) no_loops ≡ true → fits_in_list xs [] ≡ true
+    go [] h = refl
+    go (x ∷ xs) h =
+        let parts = and_parts ((made x).keeps no_loops) (list_keeps (map made xs) no_loops) h in
+        and_from (fits_in x []) (fits_in_list xs []) (keeps_fits x no_loops refl parts.0) (go xs parts.1)
+
+-- a loop among those of a unit stands in it
+pub stands_there : (u : Program) (placed : List Head) (i : ℕ) (loop : Loop) (ranges : List Range) → placed ≡ heads_of u → slice_get placed i ≡ Some (record { loop = loop; path = ranges }) → StandsIn u loop ranges
+stands_there u placed i loop ranges all there =
+    let found = among (placed_loops u) i (ap (λ l. slice_get l i) (sym all) ∙ there) in
+    record { placed = found.0; there = found.1; loop = ap (λ (h : Head). h.loop) found.2; path = ap (λ (h : Head). h.path) found.2 }
+  where
+    among : (ls : List PlacedLoop) (n : ℕ) → slice_get (map head_at ls) n ≡ Some (record { loop = loop; path = ranges }) → (l : PlacedLoop) × Contains ls l × (head_at l ≡ record { loop = loop; path = ranges })
+    among [] n e = absurd cc
+    among (l ∷ ls) zero e = (l, (0, omega arith, refl), cc)
+    among (l ∷ ls) (suc n) e = let found = among ls n e in (found.0, (suc found.1.0, omega (arith, found.1.1), found.1.2), found.2)
+
+-- the first of those from one on
+pub first_left : (all : List Head) (i : ℕ) (head first : Head) (rest : List Head) → slice_get all i ≡ Some head → drop i all ≡ first ∷ rest → first ≡ head
+first_left [] i head first rest e h = absurd cc
+first_left (x ∷ all) zero head first rest e h = cc
+first_left (x ∷ all) (suc i) head first rest e h = first_left all i head first rest e h
+
+pub none_left : (all : List Head) (i : ℕ) → length all ≤ i → drop i all ≡ []
+none_left [] zero h = refl
+none_left [] (suc i) h = refl
+none_left (x ∷ all) zero h = absurd (omega (arith, h))
+none_left (x ∷ all) (suc i) h = none_left all i (omega (arith, h))
+
+pub one_less : (all : List Head) (i : ℕ) → drop (i + 1) all ≡ drop 1 (drop i all)
+one_less all i = ap (λ n. drop n all) next ∙ go all i
+  where
+    next : i + 1 ≡ suc i
+    next = omega arith
+
+    go : (xs : List Head) (n : ℕ) → drop (suc n) xs ≡ drop 1 (drop n xs)
+    go [] zero = refl
+    go [] (suc n) = refl
+    go (x ∷ xs) zero = refl
+    go (x ∷ xs) (suc n) = go xs n
+
+-- all that is found in the body of a unit
+pub all_placed : (u : Program) (p : List Stmt) (path : List Range) (old new : List Head) → IsWellMade u → p ≡ u.body → path ≡ [] → old ≡ [] → Finds p path old new → new ≡ heads_of u
+all_placed u p path old new well b outermost empty f =
+    f ((λ i. fits_in_list (b i) (outermost i)) ∙ body_fits u well) outside_loops 0 (sym outermost) ∙ (λ i. empty i ++ heads_in_list (b i) outside_loops 0)
+
+-- what is lent at a place
+pub item_there : {R : Type 0} (now : R → Head) (xs : List Head) (i : ℕ) (o : Option R) (x : R) → o ≡ Some x → is_some o ≡ nat_lt i (length xs) → IfSome o (λ y. now y ≡ get_or xs i (now y)) → slice_get xs i ≡ Some (now x)
+item_there {R} now xs i o x is within there =
+    let some : true ≡ nat_lt i (length xs) = subst (λ (z : Option R). is_some z ≡ nat_lt i (length xs)) is within in
+    go xs i (now x) (grind (arith, nat_tests, some)) (subst (λ (z : Option R). IfSome z (λ y. now y ≡ get_or xs i (now y))) is there)
+  where
+    go : (ys : List Head) (n : ℕ) (h : Head) → n < length ys → h ≡ get_or ys n h → slice_get ys n ≡ Some h
+    go [] n h b e = absurd (omega (arith, b))
+    go (y ∷ ys) zero h b e = ap Some (sym e)
+    go (y ∷ ys) (suc n) h b e = go ys n h (omega (arith, b)) e

@@ -1,2 +1,9 @@
+mod FoldLemmas
 mod HeadLemmas
+mod MadeLemmas
+mod NameLemmas
+mod SourceLemmas
+mod SpeltLemmas
+mod TextLemmas
+mod UnitLemmas
 mod WalkLemmas

@@ -70,7 +70,8 @@ fn enter_band(alloc: Global, head: &Loop, depth: u32, names: &mut Names) -> Resu
         return Ok(());
     }
     enter(alloc, head, names)?;
-    enter_body(alloc, head.body.as_slice(), depth - 1, names)
+    enter_body(alloc, head.body.as_slice(), depth - 1, names)?;
+    Ok(())
 }
 
 /// Names those of the loop that a body is, where blocks of one statement are looked through.
@@ -84,8 +85,12 @@ fn enter_body(
     ensures { OnOk result ((at : List ℕ) → names.new ≡ record names.old { iters = names.old.iters ++ iterators_of (nest_in depth body.now at).loops }) }
 {
     match body {
-        [only] => enter_only(alloc, only, depth, names),
-        _ => Ok(()),
+        [] => Ok(()),
+        [only] => {
+            enter_only(alloc, only, depth, names)?;
+            Ok(())
+        }
+        [_, _, ..] => Ok(()),
     }
 }
 
@@ -99,8 +104,14 @@ fn enter_only(
     ensures { OnOk result ((at : List ℕ) → names.new ≡ record names.old { iters = names.old.iters ++ iterators_of (nest_in depth (statement.now ∷ []) at).loops }) }
 {
     match statement {
-        Stmt::For(head) => enter_band(alloc, head, depth, names),
-        Stmt::Block(body) => enter_body(alloc, body.as_slice(), depth, names),
+        Stmt::For(head) => {
+            enter_band(alloc, head, depth, names)?;
+            Ok(())
+        }
+        Stmt::Block(body) => {
+            enter_body(alloc, body.as_slice(), depth, names)?;
+            Ok(())
+        }
         Stmt::Assign { .. } => Ok(()),
         Stmt::AddTo { .. } => Ok(()),
         Stmt::Declare { .. } => Ok(()),

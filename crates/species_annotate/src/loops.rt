@@ -26,9 +26,15 @@ pub(crate) struct PlacedLoop<'a> {
 }
 
 impl<'a> Model for PlacedLoop<'a> {
+    ghost use Rattle.std.specs.Coded.{codes};
+    ghost use Rattle.species_ast.specs.contracts.tree.Expr as expr;
+    ghost use Rattle.species_ast.specs.contracts.tree.Stmt as stmt;
+    ghost use Rattle.species_ast.specs.contracts.tree.Loop as looped;
     ghost use Rattle.species_annotate.specs.Loops.{Head};
 
     ghost Value = { Head };
+
+    ghost coded = { Prim.hlevel (codes, expr.the_row.coded, stmt.the_row.coded, looped.the_row.coded) };
 
     ghost view = { λ p. record { loop = p.head.now; path = p.path } };
 }
@@ -43,10 +49,16 @@ pub(crate) struct Loops<'a> {
 
 impl<'a> Model for Loops<'a> {
     ghost use Rattle.std.specs.Prelude.{◌≡◌, drop};
+    ghost use Rattle.std.specs.Coded.{codes};
+    ghost use Rattle.species_ast.specs.contracts.tree.Expr as expr;
+    ghost use Rattle.species_ast.specs.contracts.tree.Stmt as stmt;
+    ghost use Rattle.species_ast.specs.contracts.tree.Loop as looped;
     ghost use Rattle.species_ast.specs.Scope.WellMade.{IsWellMade};
     ghost use Rattle.species_annotate.specs.Loops.{LoopsLeft, heads_of};
 
     ghost Value = { LoopsLeft };
+
+    ghost coded = { Prim.hlevel (codes, expr.the_row.coded, stmt.the_row.coded, looped.the_row.coded) };
 
     ghost view = { λ l. record { unit = l.unit.now; left = drop l.next l.placed.items } };
 

@@ -8,9 +8,13 @@ ghost use Rattle.species_ast.specs.declared.tree.Loop.{out-Loop, roll-Loop};
 ghost use Rattle.species_ast.specs.declared.tree.Mark.TheVariants as mark;
 ghost use Rattle.species_ast.specs.declared.tree.Stmt.TheVariants.{For};
 ghost use Rattle.species_ast.specs.Scope.Loops.{Standing};
+ghost use Rattle.species_ast.specs.Marks.{IsUnmarked};
+ghost use Rattle.species_ast.specs.Scope.References.{HasReadSize};
 ghost use Rattle.species_ast.specs.Scope.WellMade.{IsWellMade};
-ghost use Rattle.species_annotate.specs.Annotated.{Around, names_in, BecomesStmt, BecomesBody, BecomeAll, IsAnnotated, outside};
-ghost use Rattle.species_annotate.specs.Loops.{Head, heads_in, heads_in_list, heads_inside};
+ghost use Rattle.species_ast.specs.Strip.{source_of};
+ghost use Rattle.species_readback.specs.Spelt.{IsSpelt, HasSpeltMarks};
+ghost use Rattle.species_annotate.specs.Annotated.{Around, names_in, BecomesStmt, BecomeAll, IsAnnotated, outside};
+ghost use Rattle.species_annotate.specs.Loops.{Head, heads_in, heads_in_list};
 
 use crate::lines::{enter, leave, line_of, names_of};
 use crate::loops::Loops;
@@ -122,10 +126,10 @@ fn annotate_stmt(
             let body = annotate_list(alloc, body.as_slice(), loops, names)?;
             Ok(Stmt::Block(body))
         }
-        Stmt::Assign { .. } => copy_stmt(alloc, statement),
-        Stmt::AddTo { .. } => copy_stmt(alloc, statement),
-        Stmt::Declare { .. } => copy_stmt(alloc, statement),
-        Stmt::SetLocal { .. } => copy_stmt(alloc, statement),
+        Stmt::Assign { .. } => Ok(copy_stmt(alloc, statement)?),
+        Stmt::AddTo { .. } => Ok(copy_stmt(alloc, statement)?),
+        Stmt::Declare { .. } => Ok(copy_stmt(alloc, statement)?),
+        Stmt::SetLocal { .. } => Ok(copy_stmt(alloc, statement)?),
     }
 }
 
@@ -148,7 +152,7 @@ fn annotate_list(
     Ok(lined)
 }
 
-/// The loop, which is the next one, with its line, and what stands in it with the lines that it has.
+/// The loop, which is the next one, with its line. What stands in a sequential loop gets its lines.
 #[cycle(annotate)]
 fn annotate_loop(
     alloc: Global,
@@ -162,37 +166,20 @@ fn annotate_loop(
     ensures becomes { IfOk result (λ new. (w : Around) (s : Standing) (rest : List Head) → s.around.path ≡ w.path → names.old ≡ names_in loops.old.unit w.iters → loops.old.left ≡ heads_in (For head.now) s ++ rest → BecomesStmt loops.old.unit w (For head.now) (For new)) }
 {
     let Some(nest) = loops.plan(alloc)? else {
-        return copy_loop(alloc, head);
+        return Ok(copy_loop(alloc, head)?);
     };
     loops.pass();
     let line = line_of(alloc, head, &nest, names)?;
-    let body = if nest.depth == 0 {
-        annotate_body(alloc, head, loops, names)?
-    } else {
-        pass_list(head.body.as_slice(), loops);
-        copy_stmts(alloc, head.body.as_slice())?
-    };
-    lined(alloc, head, Some(line), body)
-}
-
-/// What stands in a sequential loop, with its lines.
-#[cycle(annotate)]
-fn annotate_body(
-    alloc: Global,
-    head: &Loop,
-    loops: &mut Loops<'_>,
-    names: &mut Names,
-) -> Result<Items<Stmt>, OutOfMemory>
-    ensures unit { OnOk result (loops.new.unit ≡ loops.old.unit) }
-    ensures names { OnOk result (names.new ≡ names.old) }
-    ensures left { OnOk result ((s : Standing) (rest : List Head) → loops.old.left ≡ heads_inside head.now s ++ rest → loops.new.left ≡ rest) }
-    ensures becomes { IfOk result (λ new. (w : Around) (s : Standing) (rest : List Head) → s.around.path ≡ w.path → names.old ≡ names_in loops.old.unit w.iters → loops.old.left ≡ heads_inside head.now s ++ rest → BecomesBody loops.old.unit w head.now 0 new) }
-{
-    let level = names.iters.len();
-    enter(alloc, head, names)?;
-    let body = annotate_list(alloc, head.body.as_slice(), loops, names)?;
-    leave(level, names);
-    Ok(body)
+    if nest.depth == 0 {
+        let level = names.iters.len();
+        enter(alloc, head, names)?;
+        let body = annotate_list(alloc, head.body.as_slice(), loops, names)?;
+        leave(level, names);
+        return Ok(lined(alloc, head, Some(line), body)?);
+    }
+    pass_list(head.body.as_slice(), loops);
+    let body = copy_stmts(alloc, head.body.as_slice())?;
+    Ok(lined(alloc, head, Some(line), body)?)
 }
 
 /// The body of a unit without marks, with its lines.
@@ -202,13 +189,19 @@ fn annotated_body(alloc: Global, unit: &Unit) -> Result<Items<Stmt>, OutOfMemory
 {
     let mut loops = Loops::of(alloc, unit)?;
     let mut names = names_of(alloc, unit)?;
-    annotate_list(alloc, unit.body.as_slice(), &mut loops, &mut names)
+    Ok(annotate_list(alloc, unit.body.as_slice(), &mut loops, &mut names)?)
 }
 
-/// The unit with the species line of each nest that is planned, and without any other marks or lines.
+/// The unit with the species line of each nest that is planned, and without any other marks or lines. Its lines
+/// can be written where the names of the unit can.
 pub fn annotate(alloc: Global, unit: &Unit) -> Result<Unit, OutOfMemory>
     requires { IsWellMade unit.now }
-    ensures { IfOk result (IsAnnotated unit.now) }
+    ensures plan { IfOk result (IsAnnotated unit.now) }
+    ensures source { IfOk result (λ lined. source_of lined ≡ source_of unit.now) }
+    ensures unmarked { IfOk result IsUnmarked }
+    ensures well_made { IfOk result IsWellMade }
+    ensures size { HasReadSize unit.now → IfOk result HasReadSize }
+    ensures written { IsSpelt unit.now → IfOk result HasSpeltMarks }
 {
     let source = strip(alloc, unit, false)?;
     let body = annotated_body(alloc, &source)?;
