@@ -406,8 +406,10 @@ sides_text names ls rs h = record {
   goes_on = kernel ls;
 }
   where
-    lefts rights : List RawArc
+    lefts : List RawArc
     lefts = map (written_arc names) ls
+
+    rights : List RawArc
     rights = map (written_arc names) rs
 
     front : (rest : List Arc) → begins_full (text_of (side_pieces (map (written_arc names) rest) ++ (spaced part.Arrow ++ side_pieces rights))) ≡ true

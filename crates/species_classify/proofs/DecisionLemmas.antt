@@ -28,7 +28,7 @@ use Rattle.species_classify.specs.declared.decide.Decision.{Decision}
 use Rattle.species_classify.specs.Bands.{IsBandOf}
 use Rattle.species_classify.specs.Decisions.{sequential, IsSharedDecision, IsPlainDecision, IsDecidedBy, IsDecisionWith, IsDecision}
 use Rattle.species_classify.specs.Places.{StandsIn, ArePlain}
-use Rattle.species_classify.proofs.AskedLemmas.{nest_asked, sound_path}
+use Rattle.species_classify.proofs.AskedLaws.{nest_asked, sound_path}
 use Rattle.species_classify.proofs.BandLemmas.{some_band, band_within}
 use Rattle.species_classify.proofs.StandLemmas.{stands_well, stands_shallow}
 

@@ -2,12 +2,12 @@ mod DepthLemmas
 mod ReasonLemmas
 mod LocalLemmas
 mod FrontLemmas
-pub mod AskedLemmas
+pub mod AskedLaws
 mod FormLemmas
 mod SoundLemmas
 mod StandLemmas
 mod BandLemmas
-mod PlaceLemmas
+pub mod PlaceLaws
 mod BoundLemmas
 mod CountLemmas
 mod MergeLemmas

@@ -17,7 +17,7 @@ use Rattle.species_references.specs.declared.nest.Reference.{Reference as Held}
 use Rattle.species_references.proofs.TurnLaws.{each_to_all, references_have_turns}
 use Rattle.species_ranges.proofs.MergeableLaws.{each_of_all, all_mergeable}
 use Rattle.species_classify.specs.Places.{StandsIn}
-use Rattle.species_classify.proofs.PlaceLemmas.{IsPlaced, standing_placed}
+use Rattle.species_classify.proofs.PlaceLaws.{IsPlaced, standing_placed}
 
 pub nest_mergeable : (adds : Adding) (u : Program) (head : Loop) (path : List Range) (depth : ℕ) (refs : List Held) → IsWellMade u → StandsIn u head path
     → Pairwise (IsReference (sizes_of (source_context u)) (length path + depth)) refs (references_of adds head [] path depth) → All IsMergeable refs

@@ -1,9 +1,9 @@
 mod ListLemmas
 mod ConstantForms
-mod NameLaws
+pub mod NameLaws
 mod PlainLaws
 mod HeadLaws
-mod WholeBoxes
+pub mod WholeBoxes
 mod FixedForms
 mod ReadableLaws
 mod SourceLaws

@@ -1,4 +1,4 @@
-use Rattle.species_classify.proofs.AskedLemmas.{nest_asked}
+use Rattle.species_classify.proofs.AskedLaws.{nest_asked}
 use Rattle.species_plan_truth.proofs.MeetLaws.{planned_never_meet}
 use Rattle.species_plan_truth.proofs.MeetRunLaws.{planned_runnings_meet}
 use Rattle.species_plan_truth.proofs.meetings.law_plans.Goals as goal

@@ -29,7 +29,7 @@ use Rattle.species_references.specs.References.{adds_of, IsReference}
 use Rattle.species_references.proofs.TurnLaws.{each_to_all}
 use Rattle.species_classify.specs.Places.{StandsIn}
 use Rattle.species_classify.proofs.FrontLemmas.{nest_front}
-use Rattle.species_classify.proofs.PlaceLemmas.{IsOverLevels, IsPlaced, standing_placed}
+use Rattle.species_classify.proofs.PlaceLaws.{IsOverLevels, IsPlaced, standing_placed}
 use Rattle.species_classify.proofs.SoundLemmas.{IsSound}
 use Rattle.std.specs.Prelude.{slice_index_or}
 use Rattle.species_ast.specs.Scope.Hulls.{Range}
