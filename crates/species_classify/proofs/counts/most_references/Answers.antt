@@ -1,3 +1,4 @@
+-- The references of a nest are those of the body of its loop.
 use Rattle.std.proofs.Common.{arith}
 use Rattle.species_classify.proofs.CountLemmas.{loop_counted}
 use Rattle.species_classify.proofs.counts.most_references.Goals as goal

@@ -1,3 +1,4 @@
+-- The plain references of a nest are those of its text.
 use Rattle.std.proofs.Common.{[]}
 use Rattle.species_references.specs.Ranges.{ranges_seen}
 use Rattle.species_references.specs.References.{adds_of}

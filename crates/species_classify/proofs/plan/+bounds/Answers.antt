@@ -1,3 +1,4 @@
+-- The bounds of a loop, and of the loops that are perfectly nested in it.
 use Rattle.std.proofs.Common.{◌-◌, refl}
 use Rattle.species_classify.proofs.BoundLemmas.{one_bound, more_bounds, for_bounds, block_bounds, other_bounds, sole_assign, sole_add, sole_declare, sole_set, sole_if, only_bounds, no_bounds, several_bounds, one_is}
 use Rattle.species_classify.proofs.plan.+bounds.Goals as goal

@@ -1,3 +1,4 @@
+-- The arcs of a band.
 use Rattle.std.proofs.Common.{sym, subst, refl, arith, length, [], All}
 use Rattle.species_merge.specs.Sizes.{IsMergeable}
 use Rattle.species_references.specs.Ranges.{ranges_seen}

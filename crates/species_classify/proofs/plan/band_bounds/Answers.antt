@@ -1,3 +1,4 @@
+-- The bounds of a band, and their number.
 use Rattle.std.proofs.Common.{◌∙◌, ◌-◌, ap, []}
 use Rattle.species_ranges.specs.Fitting.{fits_in_loop}
 use Rattle.species_classify.proofs.ArcLemmas.{bounds_are, bounds_count}

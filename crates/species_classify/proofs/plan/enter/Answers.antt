@@ -1,3 +1,4 @@
+-- The bounds of one loop.
 use Rattle.std.proofs.Common.{subst, sym, All}
 use Rattle.species_merge.specs.Sizes.{IsSmallBound}
 use Rattle.species_classify.proofs.BoundLemmas.{range_is, all_more}

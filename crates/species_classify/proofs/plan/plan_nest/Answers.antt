@@ -1,3 +1,4 @@
+-- A loop of a well made unit stands in few loops with small ranges.
 use Rattle.species_references.specs.Ranges.{ranges_seen}
 use Rattle.species_classify.proofs.DecisionLemmas.{path_short, path_small}
 use Rattle.species_classify.proofs.StandLemmas.{stands_fits}
