@@ -1,1 +1,9 @@
 pub mod SaidLaws
+mod LineMarks
+mod LineBands
+mod LineHolds
+mod LineApart
+mod BandChoices
+mod BandNames
+mod TruthStands
+mod LineTruth

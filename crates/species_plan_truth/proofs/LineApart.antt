@@ -32,8 +32,7 @@ use Rattle.species_plan_truth.specs.Meetings.{AreHarmless, PlannedNeverMeet}
 use Rattle.species_plan_truth.specs.Truth.{IsTurnOf, accessed}
 use Rattle.species_plan_truth.proofs.LineBands.{ranges_length, IsElsewhere, same_sizes, same_path, band_deep, outer_length}
 use Rattle.species_plan_truth.proofs.LineHolds.{innermost_regular, elsewhere}
-use Rattle.species_plan_truth.proofs.LineMarks.{same_references}
-use Rattle.species_plan_truth.proofs.MeetLaws.{marked_references}
+use Rattle.species_plan_truth.proofs.MarkLaws.{unmarked_same, marked_same}
 
 -- ---- lists
 
@@ -92,7 +91,7 @@ turn_made additions join u s gathered r t deep here =
     let own : references_of adds r.loop r.at around 1 ≡ references_of adds s.head s.at (ranges_of [] s.around) (suc s.below) =
     sym (own_references adds n r here.innermost)
     ∙ (λ i. references_of adds n.head (here.marks.at i) (same_path u v s n there i) (band_deep u v s n there deep i))
-    ∙ same_references gathered n.head s.head s.at (ranges_of [] s.around) (suc s.below) here.marks.head.text in
+    ∙ unmarked_same gathered n.head s.head s.at (ranges_of [] s.around) (suc s.below) here.marks.head.text in
     let done = every_access join (IsMade (sizes_of (source_context v)) iters (references_of adds r.loop r.at around 1)) (HasIters iters) does t.arrays
     (nest_body_made (source_context v) adds 0 r.loop r.at around iters t.frame regular taken their.0.1 refl) in
     let count = band_deep u v s n there deep in
@@ -120,7 +119,7 @@ line_apart never additions u s d well stands decided parallel deep join r q t v 
     let other = turn_made additions join u s d.gathered q v deep there in
     let x = each_contains (IsMadeThere u s d.gathered t.frame.iters) (accessed join here.marked r t) own.made a first in
     let y = each_contains (IsMadeThere u s d.gathered v.frame.iters) (accessed join there.marked q v) other.made b second in
-    let refs : references_of (adds_of d.gathered) s.head s.at path (suc s.below) ≡ references_of as_marked marked s.at path (suc s.below) = sym (marked_references s.head marked d.gathered s.at path (suc s.below) here.marks.head) in
+    let refs : references_of (adds_of d.gathered) s.head s.at path (suc s.below) ≡ references_of as_marked marked s.at path (suc s.below) = sym (marked_same (adds_of d.gathered) marked s.at path (suc s.below) here.marks.head.additions ∙ unmarked_same d.gathered marked s.head s.at path (suc s.below) here.marks.head.text) in
     let outer : length s.around ≡ length path = omega (arith, ranges_length [] s.around) in
     let apart = differ_behind (length s.around) (suc s.below) t.frame.iters v.frame.iters a.site.iters b.site.iters own.long other.long x.1 y.1 differ in
     never u s.head marked path d s.at (suc s.below) a b well stands decided here.marks.head (subst (λ rs. IsMadeAmong sizes rs a) refs x.0) (subst (λ rs. IsMadeAmong sizes rs b) refs y.0)

@@ -27,7 +27,8 @@ use Rattle.species_occurrences.proofs.AnywhereLaws.{nest_alike}
 use Rattle.species_occurrences.proofs.FrontLaws.{nests_are_fronts}
 use Rattle.species_references.specs.References.{adds_of, IsReference}
 use Rattle.species_references.specs.declared.nest.Reference.{Reference as Held}
-use Rattle.species_plan_truth.proofs.LineMarks.{plain_loop, same_ranges, same_nest, same_references}
+use Rattle.species_plan_truth.proofs.LineMarks.{plain_loop, same_ranges, same_nest}
+use Rattle.species_plan_truth.proofs.MarkLaws.{unmarked_same}
 
 -- ---- references at another position
 
@@ -154,7 +155,7 @@ band_arcs u v s n gathered arcs has e =
     let inner : length path + suc s.below ≡ length n.around + length has.bands = omega (arith, outer, counted, count, length-map (standing_nest n).loops (λ p. p.loop)) in
     let same : map unplaced (references_of adds s.head [] path (suc s.below)) ≡ map unplaced qs =
     nest_alike adds s.head [] n.at path (suc s.below)
-    ∙ ap (map unplaced) (sym (same_references gathered n.head s.head n.at path (suc s.below) e.head) ∙ (λ i. references_of adds n.head n.at (sym ranges i) (sym count i))) in
+    ∙ ap (map unplaced) (sym (unmarked_same gathered n.head s.head n.at path (suc s.below) e.head) ∙ (λ i. references_of adds n.head n.at (sym ranges i) (sym count i))) in
     let shown = shown_elsewhere (sizes_of (source_context u)) (length path + suc s.below) has.refs (references_of adds s.head [] path (suc s.below)) qs same has.shown in
     record {
       among = λ k d l. one_of_own qs k d l;

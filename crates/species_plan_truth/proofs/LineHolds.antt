@@ -1,5 +1,5 @@
 -- What the line of a planned nest says holds in each turn of its band, in each run.
-use Rattle.std.proofs.Common.{◌≡◌, refl, ap, sym, ◌∙◌, subst, ℕ, suc, ◌+◌, Bool, true, false, ◌&&◌, not, if◌then◌else◌, List, [], ◌∷◌, ◌++◌, map, length, slice_index_or, ℤ, Option, Some, All, ◌⊎◌, inl, inr}
+use Rattle.std.proofs.Common.{◌≡◌, refl, ap, sym, ◌∙◌, subst, arith, ℕ, Bool, true, false, ◌&&◌, not, if◌then◌else◌, List, [], ◌∷◌, ◌++◌, map, length, slice_index_or, ℤ, Option, Some, All, ◌⊎◌, inl, inr}
 use Rattle.std.specs.Prelude.{IsTrue, is_some}
 use Rattle.std.specs.List.{Any, filter}
 use Rattle.std.proofs.lemmas.Bool.{and_parts, and_from}
@@ -160,7 +160,7 @@ regular_by adds others l h body =
     (sym (opened others l) ∙ h) body
 
 -- so the innermost loop of a band is, if the first is
-innermost_regular : (adds : Adding) (n : Standing) (r : Running) → IsInnermost n r → is_regular as_marked (stmt.For r.loop) ≡ true → is_regular adds (stmt.For n.head) ≡ true → is_regular adds (stmt.For r.loop) ≡ true
+pub innermost_regular : (adds : Adding) (n : Standing) (r : Running) → IsInnermost n r → is_regular as_marked (stmt.For r.loop) ≡ true → is_regular adds (stmt.For n.head) ≡ true → is_regular adds (stmt.For r.loop) ≡ true
 innermost_regular adds n r inner marked head =
     regular_by adds as_marked r.loop marked (subst (λ xs. all_true (map (is_regular adds) xs) ≡ true) (innermost_body n r inner) (nest_regular adds n.below n.head n.at head))
 
@@ -181,6 +181,7 @@ line_holds lines domains additions join u s gathered arcs has names r t here =
     let regular = innermost_regular adds n r here.innermost (additions join v here.start r here.made here.comes).0 here.marks.head.additions in
     let nest = band_arcs u v s n gathered arcs has there in
     let all = lines join v here.start r adds n (nest_references adds n) arcs t here.made here.comes here.innermost regular nest here.turn in
-    let merged : AreArcsOf (length s.around) has.bands has.refs arcs = subst (λ k. AreArcsOf k has.bands has.refs arcs) (ranges_length [] s.around) has.merged in
+    let outer : length (ranges_of [] s.around) ≡ length s.around = omega (arith, ranges_length [] s.around) in
+    let merged : AreArcsOf (length s.around) has.bands has.refs arcs = subst (λ k. AreArcsOf k has.bands has.refs arcs) outer has.merged in
     say_true (length s.around) (sizes_of (source_context v)) t.frame.iters (nest_references adds n) arcs (accessed join v r t) (Ends join v r t)
     (λ place k d l p agree. domains (length s.around) has.bands has.refs arcs (point_of t.frame.iters) p place merged names agree k d l) all

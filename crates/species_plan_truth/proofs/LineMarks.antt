@@ -1,24 +1,19 @@
--- A nest that is another but for marks has the loops of the other but for marks, with the same ranges; and where additions are counted
--- by their arrays, it has the same references.
+-- A nest that is another but for marks has the loops of the other but for marks, with the same ranges.
 use Rattle.std.proofs.Common.{◌≡◌, refl, ap, sym, ◌∙◌, ℕ, zero, suc, Bool, false, if◌then◌else◌, List, [], ◌∷◌, ◌++◌, map, length, Option, Some, None}
 use Rattle.std.specs.Prelude.{option_map}
-use Rattle.species_ast.specs.declared.tree.Expr.{Expr}
-use Rattle.species_ast.specs.declared.tree.Loop.{Loop, roll-Loop, fold-Loop, out-Loop}
-use Rattle.species_ast.specs.declared.tree.Mark.TheVariants.{Plain}
-use Rattle.species_ast.specs.declared.tree.Stmt.{Stmt, fold-Stmt, fold-roll-Stmt}
-use Rattle.species_ast.specs.declared.tree.Stmt.TheOpen.{Stmt-F, Loop-F}
+use Rattle.species_ast.specs.declared.tree.Loop.{Loop, roll-Loop, out-Loop}
+use Rattle.species_ast.specs.declared.tree.Stmt.{Stmt}
+use Rattle.species_ast.specs.declared.tree.Stmt.TheOpen.{Loop-F}
 use Rattle.species_ast.specs.declared.tree.Stmt.TheVariants as stmt
 use Rattle.species_ast.specs.Scope.Hulls.{Range, range_of}
-use Rattle.species_ast.specs.Scope.References.{Referring, references_at, references_inside, stmt_references, loop_references, references_of}
 use Rattle.species_ast.specs.Strip.{strip_step, strip_layer, strip_stmt, strip_loop}
-use Rattle.species_ast.proofs.Folds.{fold_stmt-Assign, fold_stmt-AddTo, fold_stmt-Declare, fold_stmt-SetLocal, fold_stmt-If, fold_stmt-For, fold_stmt-Block, fold_loop, fold_loop-out}
-use Rattle.species_ast.proofs.Induction.{Each, each_all, StmtCases, stmt_ind}
+use Rattle.species_ast.proofs.Folds.{fold_stmt-Assign, fold_stmt-AddTo, fold_stmt-Declare, fold_stmt-SetLocal, fold_stmt-If, fold_stmt-For, fold_stmt-Block, fold_loop-out}
+use Rattle.species_ast.proofs.Induction.{Each, each_all, stmt_ind}
 use Rattle.species_ast.proofs.Paras.{para_stmt-Assign, para_stmt-AddTo, para_stmt-Declare, para_stmt-SetLocal, para_stmt-If}
 use Rattle.species_nests.specs.Nests.{Placed, sole_at, sole, only, Nest, nest_in, nest_of}
 use Rattle.species_nests.proofs.NestLaws.{no_loops, sole-For, sole-Block, under}
 use Rattle.species_nests.proofs.RunningLaws.{loops_of_nest}
 use Rattle.species_occurrences.specs.Iterators.{ranges_of}
-use Rattle.species_references.specs.References.{adds_of}
 
 abbrev pub plain_loop : Loop → Loop
 plain_loop = strip_loop false
@@ -154,70 +149,3 @@ pub same_nest : (d : ℕ) (l k : Loop) (at other : List ℕ) → plain_loop l �
     → map plain_loop (loops_of_nest (nest_of d l at).loops) ≡ map plain_loop (loops_of_nest (nest_of d k other).loops)
 same_nest d l k at other e =
     sym (nest_plain d l at) ∙ ap (λ z. loops_of_nest (nest_of d z at).loops) e ∙ nest_plain d k at ∙ ap (map plain_loop) (nest_anywhere d k at other)
-
--- ---- references
-
--- a layer with another body
-abbrev with_body : {X Y Z W : Type 0} → Loop-F X Y → List Z → Loop-F Z W
-with_body l body = record { place = l.place; iter = l.iter; start = l.start; test = l.test; limit = l.limit; step = l.step; body = body; line = l.line; mark = l.mark }
-
-abbrev plain_layer : {X Y : Type 0} → Loop-F X Y → Loop-F X Y
-plain_layer l = record l { line = None; mark = Plain }
-
-map_plain : {X : Type 0} (f : Stmt → X) (xs : List Stmt) → Each (λ x. f (plain_stmt x) ≡ f x) xs → map f (map plain_stmt xs) ≡ map f xs
-map_plain f [] h = refl
-map_plain f (x ∷ xs) h = λ i. h.0 i ∷ map_plain f xs h.1 i
-
-module _ (gathered : List ℕ) where
-  abbrev at : Stmt-F Referring Referring → Referring
-  at = references_at (adds_of gathered)
-
-  abbrev inside : Loop-F Referring Referring → Referring
-  inside = references_inside (adds_of gathered)
-
-  abbrev refs : Stmt → Referring
-  refs = stmt_references (adds_of gathered)
-
-  abbrev IsSame : Stmt → Type 0
-  IsSame x = refs (plain_stmt x) ≡ refs x
-
-  same_stmt : (x : Stmt) → IsSame x
-  same_stmt = stmt_ind IsSame (record {
-    assign = λ place a subs value. ap refs (fold_stmt-Assign strip_step layer place a subs value ∙ stmt.rolls-Assign place a subs value);
-    add_to = λ place a subs value atomic.
-        ap refs (fold_stmt-AddTo strip_step layer place a subs value atomic ∙ stmt.rolls-AddTo place a subs value false)
-        ∙ fold_stmt-AddTo at inside place a subs value false ∙ sym (fold_stmt-AddTo at inside place a subs value atomic);
-    declare = λ place n init. ap refs (fold_stmt-Declare strip_step layer place n init ∙ stmt.rolls-Declare place n init);
-    set_local = λ place n value. ap refs (fold_stmt-SetLocal strip_step layer place n value ∙ stmt.rolls-SetLocal place n value);
-    choice = λ place test body otherwise h k.
-        ap refs (fold_stmt-If strip_step layer place test body otherwise ∙ stmt.rolls-If place test (map plain_stmt body) (map plain_stmt otherwise))
-        ∙ fold_stmt-If at inside place test (map plain_stmt body) (map plain_stmt otherwise)
-        ∙ (λ i. at (Stmt-F.If place test (map_plain refs body h i) (map_plain refs otherwise k i)))
-        ∙ sym (fold_stmt-If at inside place test body otherwise);
-    loop = λ l h.
-        ap refs (fold_stmt-For strip_step layer (roll-Loop l) ∙ stmt.rolls-For (plain_loop (roll-Loop l)))
-        ∙ fold_stmt-For at inside (plain_loop (roll-Loop l))
-        ∙ ap (λ z. at (Stmt-F.For z)) (
-        ap (fold-Loop Referring Referring at inside) (fold_loop strip_step layer l)
-        ∙ fold_loop at inside (plain_layer (with_body l (map plain_stmt l.body)))
-        ∙ ap (λ b. inside (with_body l b)) (map_plain refs l.body h)
-        ∙ sym (fold_loop at inside l))
-        ∙ sym (fold_stmt-For at inside (roll-Loop l));
-    block = λ body h.
-        ap refs (fold_stmt-Block strip_step layer body ∙ stmt.rolls-Block (map plain_stmt body))
-        ∙ fold_stmt-Block at inside (map plain_stmt body)
-        ∙ ap (λ b. at (Stmt-F.Block b)) (map_plain refs body h)
-        ∙ sym (fold_stmt-Block at inside body);
-  })
-
-  same_loop : (l : Loop) → loop_references (adds_of gathered) (plain_loop l) ≡ loop_references (adds_of gathered) l
-  same_loop l =
-      sym (ap refs (fold_stmt-For strip_step layer l ∙ stmt.rolls-For (plain_loop l)) ∙ fold_stmt-For at inside (plain_loop l))
-      ∙ same_stmt (stmt.For l) ∙ fold_stmt-For at inside l
-
-  -- the references of a loop and of one that is the same but for marks
-  pub same_references : (l k : Loop) (here : List ℕ) (path : List Range) (depth : ℕ) → plain_loop l ≡ plain_loop k
-      → references_of (adds_of gathered) l here path depth ≡ references_of (adds_of gathered) k here path depth
-  same_references l k here path depth e =
-      let whole : loop_references (adds_of gathered) l ≡ loop_references (adds_of gathered) k = sym (same_loop l) ∙ ap (loop_references (adds_of gathered)) e ∙ same_loop k in
-      ap (λ f. f (record { statement = here; path = path; conditional = false }) depth) whole

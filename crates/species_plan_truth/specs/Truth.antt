@@ -1,7 +1,7 @@
 -- What the species lines of an annotated text say is true of each run. Each line is read from its bytes, with its domains; it speaks of
 -- the accesses in one turn of the innermost loop of the band: the body of a loop is executed once a turn (C17 6.8.5p4, 6.8.5.3). The
 -- run is that of the unit in which the additions to gathered arrays are atomic (OpenMP 4.5, 2.13.6), whatever else is marked in it.
-use Rattle.std.specs.Prelude.{◌≡◌, ◌≤ℤ◌, ℕ, suc, ℤ, List, [], ◌∷◌, ◌++◌, map, length, All, Some, Ok, IsTrue}
+use Rattle.std.specs.Prelude.{◌≡◌, ◌≤ℤ◌, ℕ, suc, ℤ, false, List, [], ◌∷◌, ◌++◌, map, length, All, Some, Ok, IsTrue}
 use Rattle.std.specs.List.{Any, Contains}
 use Rattle.species_annotate.specs.Annotated.{Around, band_names, names_in, plan_line}
 use Rattle.species_arcs.specs.Pairwise.{Pairwise}
