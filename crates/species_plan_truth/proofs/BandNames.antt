@@ -1,7 +1,7 @@
 -- The bounds of a band name iterators of the loops around the nest alone.
 use Rattle.std.proofs.Common.{◌≡◌, refl, ap, sym, ◌∙◌, subst, arith, ℕ, zero, suc, ◌+◌, ◌<◌, ◌≤◌, Bool, true, false, ◌&&◌, ◌||◌, not, nat_lt, nat_eq, if◌then◌else◌, List, [], ◌∷◌, ◌++◌, map, take, length, slice_index_or, ℤ, pos, negsuc, Option, Some, None, All}
 use Rattle.std.specs.Prelude.{nat_le, is_some}
-use Rattle.std.specs.List.{Contains, list_all, list_any, flat_map}
+use Rattle.std.specs.List.{Contains, list_all, list_any}
 use Rattle.std.proofs.lemmas.Bool.{and_parts, and_from, eq-eqb}
 use Rattle.std.proofs.lemmas.Bool.Decides.{nat_tests}
 use Rattle.std.proofs.lemmas.List.{length-map, length-take-le}
@@ -15,7 +15,6 @@ use Rattle.species_ast.specs.Scope.WellMade.{Around, list_holds, made, made_at, 
 use Rattle.species_ast.specs.declared.tree.Expr.{Expr}
 use Rattle.species_ast.specs.declared.tree.Loop.{Loop, out-Loop, roll-Loop}
 use Rattle.species_ast.specs.declared.tree.Stmt.{Stmt}
-use Rattle.species_ast.specs.declared.tree.Stmt.TheOpen.{Loop-F}
 use Rattle.species_ast.specs.declared.tree.Stmt.TheVariants as stmt
 use Rattle.species_ast.specs.declared.tree.Test.{Test}
 use Rattle.species_ast.specs.declared.tree.Test.TheVariants.{Lt, Le, Gt, Ge}
@@ -29,7 +28,7 @@ use Rattle.species_linear.specs.declared.forms.Term.{Term}
 use Rattle.species_lines.specs.Lines.{NamesOutside}
 use Rattle.species_lines.proofs.LevelLaws.{IsNamed, AreNamed}
 use Rattle.species_lines.proofs.ShortForms.{IsShort, short_bound}
-use Rattle.species_loops.specs.Bands.{is_of_band, names_band, is_band, IsLongestBand}
+use Rattle.species_loops.specs.Bands.{is_of_band, names_band, IsLongestBand}
 use Rattle.species_merge.specs.Bounds.{range_ends, ends_by, ends_of, IsBoundOf}
 use Rattle.species_merge.specs.declared.bands.BandBound.{BandBound}
 use Rattle.species_merge.proofs.Folding.{all_of}

@@ -1,5 +1,5 @@
 -- Accesses in two turns of the band of a planned nest are harmless, if they are to one element.
-use Rattle.std.proofs.Common.{◌≡◌, refl, ap, sym, ◌∙◌, subst, arith, ℕ, zero, suc, ◌+◌, ◌<◌, ◌≤◌, List, [], ◌∷◌, ◌++◌, length, slice_index_or, ℤ, pos}
+use Rattle.std.proofs.Common.{◌≡◌, refl, ap, sym, ◌∙◌, subst, arith, ℕ, zero, suc, ◌+◌, ◌<◌, ◌≤◌, List, [], ◌∷◌, ◌++◌, length, ℤ}
 use Rattle.std.specs.List.{Contains}
 use Rattle.std.proofs.lemmas.List.{length-append, length-map}
 use Rattle.species_ast.specs.Accesses.{Joins, Access, Tree}
@@ -7,7 +7,7 @@ use Rattle.species_ast.specs.Evaluation.{Frame, sizes_of}
 use Rattle.species_ast.specs.Run.{source_context}
 use Rattle.species_ast.specs.Scope.Hulls.{Range}
 use Rattle.species_ast.specs.Scope.Nests.{front_of}
-use Rattle.species_ast.specs.Scope.References.{Reference, references_of}
+use Rattle.species_ast.specs.Scope.References.{references_of}
 use Rattle.species_ast.specs.Scope.WellMade.{IsWellMade}
 use Rattle.species_ast.specs.declared.tree.Unit.{Unit as Program}
 use Rattle.species_ast.proofs.Induction.{Each}
@@ -16,7 +16,7 @@ use Rattle.species_classify.specs.Places.{StandsIn}
 use Rattle.species_classify.specs.declared.decide.Decision.{Decision}
 use Rattle.species_depend.specs.Law.{DifferInBand}
 use Rattle.species_linear.specs.Point.{point_of}
-use Rattle.species_lines.specs.Lines.{Standing, standing_nest, band_loops, nest_references, AdditionsAreMarked}
+use Rattle.species_lines.specs.Lines.{Standing, standing_nest, band_loops, AdditionsAreMarked}
 use Rattle.species_lines.proofs.StandingLaws.{ranges_append, own_references}
 use Rattle.species_lines.proofs.TurnIterators.{turn_iterators}
 use Rattle.species_nests.specs.Arrivals.{Running, turn_of}
@@ -30,7 +30,7 @@ use Rattle.species_references.specs.References.{adds_of}
 use Rattle.species_runs.proofs.EveryLaws.{every_access}
 use Rattle.species_plan_truth.specs.Meetings.{AreHarmless, PlannedNeverMeet}
 use Rattle.species_plan_truth.specs.Truth.{IsTurnOf, accessed}
-use Rattle.species_plan_truth.proofs.LineBands.{ranges_length, IsElsewhere, same_sizes, same_path, band_deep, outer_length}
+use Rattle.species_plan_truth.proofs.LineBands.{ranges_length, same_sizes, same_path, band_deep, outer_length}
 use Rattle.species_plan_truth.proofs.LineHolds.{innermost_regular, elsewhere}
 use Rattle.species_plan_truth.proofs.MarkLaws.{unmarked_same, marked_same}
 
@@ -97,8 +97,17 @@ turn_made additions join u s gathered r t deep here =
     let count = band_deep u v s n there deep in
     record {
       long =
-          omega (arith, taken_length (ranges_of [] (r.around ++ r.loop ∷ [])) iters their.0.0, ranges_length [] (r.around ++ r.loop ∷ []), ap length here.innermost.loops, length-append n.around (band_loops n),
-          length-map (standing_nest n).loops (λ p. p.loop), count, outer_length u v s n there, ranges_length [] s.around);
+          omega (
+            arith,
+            taken_length (ranges_of [] (r.around ++ r.loop ∷ [])) iters their.0.0,
+            ranges_length [] (r.around ++ r.loop ∷ []),
+            ap length here.innermost.loops,
+            length-append n.around (band_loops n),
+            length-map (standing_nest n).loops (λ p. p.loop),
+            count,
+            outer_length u v s n there,
+            ranges_length [] s.around,
+          );
       made = subst (λ z. Each (λ a. IsMadeAmong z (references_of adds s.head s.at (ranges_of [] s.around) (suc s.below)) a × Begins iters a.site.iters) (accessed join v r t)) (same_sizes u v here.same)
           (subst (λ rs. Each (IsMade (sizes_of (source_context v)) iters rs) (accessed join v r t)) own done);
     }

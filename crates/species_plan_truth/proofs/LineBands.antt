@@ -1,5 +1,5 @@
 -- The arcs of a nest where it is planned are arcs of the nest as it is marked in a unit with the same source.
-use Rattle.std.proofs.Common.{◌≡◌, refl, ap, sym, ◌∙◌, subst, arith, ℕ, zero, suc, ◌+◌, ◌<◌, ◌≤◌, false, List, [], ◌∷◌, ◌++◌, map, take, length, slice_index_or, All, inl, inr}
+use Rattle.std.proofs.Common.{◌≡◌, refl, ap, sym, ◌∙◌, subst, arith, ℕ, zero, suc, ◌+◌, ◌<◌, ◌≤◌, false, List, [], ◌∷◌, ◌++◌, map, length, slice_index_or, inl, inr}
 use Rattle.std.proofs.lemmas.List.{length-map, length-append, length-take-le}
 use Rattle.species_arcs.specs.Pairwise.{Pairwise}
 use Rattle.species_arcs.specs.declared.places.Arc.{Arc}
@@ -11,7 +11,7 @@ use Rattle.species_ast.specs.Run.{source_context}
 use Rattle.species_ast.specs.Scope.Hulls.{Range, range_of}
 use Rattle.species_ast.specs.Scope.Nests.{front_of}
 use Rattle.species_ast.specs.Scope.References.{Reference, references_of}
-use Rattle.species_ast.specs.Strip.{source_of, strip_step, strip_layer, strip_loop}
+use Rattle.species_ast.specs.Strip.{source_of, strip_step, strip_layer}
 use Rattle.species_ast.proofs.Folds.{fold_loop-out}
 use Rattle.species_lines.specs.Lines.{Standing, standing_nest, band_loops, nest_references, AreNestArcs}
 use Rattle.species_merge.specs.Arcs.{AreArcsOf}

@@ -1,7 +1,7 @@
 -- What the line of a planned nest says holds in each turn of its band, in each run.
-use Rattle.std.proofs.Common.{◌≡◌, refl, ap, sym, ◌∙◌, subst, arith, ℕ, Bool, true, false, ◌&&◌, not, if◌then◌else◌, List, [], ◌∷◌, ◌++◌, map, length, slice_index_or, ℤ, Option, Some, All, ◌⊎◌, inl, inr}
+use Rattle.std.proofs.Common.{◌≡◌, ap, sym, ◌∙◌, subst, arith, ℕ, Bool, true, false, ◌&&◌, not, if◌then◌else◌, List, [], ◌∷◌, ◌++◌, map, length, slice_index_or, ℤ, Some, All, ◌⊎◌, inl, inr}
 use Rattle.std.specs.Prelude.{IsTrue, is_some}
-use Rattle.std.specs.List.{Any, filter}
+use Rattle.std.specs.List.{Any}
 use Rattle.std.proofs.lemmas.Bool.{and_parts, and_from}
 use Rattle.species_arcs.specs.Pairwise.{Pairwise}
 use Rattle.species_arcs.specs.Sets.{IsInSet, IsInDomain}
@@ -12,7 +12,6 @@ use Rattle.species_ast.specs.Evaluation.{sizes_of}
 use Rattle.species_ast.specs.Marks.{all_true}
 use Rattle.species_ast.specs.Run.{source_context}
 use Rattle.species_ast.specs.Scope.Forms.{form_of}
-use Rattle.species_ast.specs.Scope.Hulls.{Range}
 use Rattle.species_ast.specs.Scope.Limits.{goes}
 use Rattle.species_ast.specs.Scope.References.{Adding, Reference}
 use Rattle.species_ast.specs.declared.tree.Loop.{Loop, out-Loop}
@@ -21,20 +20,19 @@ use Rattle.species_ast.specs.declared.tree.Unit.{Unit as Program}
 use Rattle.species_ast.proofs.Folds.{fold_stmt-For, fold_loop-out}
 use Rattle.species_cover.specs.Places.{IsInGivenDim}
 use Rattle.species_linear.specs.Point.{Point, point_of}
-use Rattle.species_lines.specs.Lines.{place_of, IsIn, IsTouch, Standing, standing_nest, nest_references, IsInnermost, HoldIn, LinesHold, NamesOutside, AgreeOutside, DomainsAreOutside, AdditionsAreMarked}
+use Rattle.species_lines.specs.Lines.{place_of, IsIn, IsTouch, Standing, nest_references, IsInnermost, HoldIn, LinesHold, NamesOutside, AgreeOutside, DomainsAreOutside, AdditionsAreMarked}
 use Rattle.species_lines.proofs.StandingLaws.{innermost_body}
 use Rattle.species_merge.specs.Arcs.{AreArcsOf}
-use Rattle.species_merge.proofs.ClassLemmas.{has_more, has_with, has_map, each_more, each_filter}
+use Rattle.species_merge.proofs.ClassLemmas.{has_with, has_map, each_more, each_filter}
 use Rattle.species_merge.proofs.Folding.{Each, Has, all_of, each_of, any_of, has_of, each_join}
 use Rattle.species_nests.specs.Arrivals.{Running}
 use Rattle.species_notation.specs.Law.{dim_as_given}
 use Rattle.species_notation.specs.Written.{is_read, is_on, reads_of, others_of}
 use Rattle.species_occurrences.specs.Iterators.{ranges_of}
-use Rattle.species_occurrences.specs.Made.{IsMadeAmong}
 use Rattle.species_occurrences.specs.Regular.{as_marked, regular_at, regular_loop, is_regular}
 use Rattle.species_occurrences.specs.Turns.{Turn}
 use Rattle.species_occurrences.proofs.NestReferences.{nest_regular}
-use Rattle.species_references.specs.References.{direction_of, adds_of}
+use Rattle.species_references.specs.References.{adds_of}
 use Rattle.species_plan_truth.specs.Said.{SaidArc, arc_as_said, said_for}
 use Rattle.species_plan_truth.specs.Truth.{IsBetween, IsInSaid, IsAt, SayTrue, IsTurnOf, accessed, Ends}
 use Rattle.species_plan_truth.proofs.LineBands.{ranges_length, BandArcs, IsElsewhere, band_arcs}

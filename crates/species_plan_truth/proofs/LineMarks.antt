@@ -1,5 +1,5 @@
 -- A nest that is another but for marks has the loops of the other but for marks, with the same ranges.
-use Rattle.std.proofs.Common.{◌≡◌, refl, ap, sym, ◌∙◌, ℕ, zero, suc, Bool, false, if◌then◌else◌, List, [], ◌∷◌, ◌++◌, map, length, Option, Some, None}
+use Rattle.std.proofs.Common.{◌≡◌, refl, ap, sym, ◌∙◌, ℕ, zero, suc, false, List, [], ◌∷◌, ◌++◌, map, Option, Some, None}
 use Rattle.std.specs.Prelude.{option_map}
 use Rattle.species_ast.specs.declared.tree.Loop.{Loop, roll-Loop, out-Loop}
 use Rattle.species_ast.specs.declared.tree.Stmt.{Stmt}
@@ -10,7 +10,7 @@ use Rattle.species_ast.specs.Strip.{strip_step, strip_layer, strip_stmt, strip_l
 use Rattle.species_ast.proofs.Folds.{fold_stmt-Assign, fold_stmt-AddTo, fold_stmt-Declare, fold_stmt-SetLocal, fold_stmt-If, fold_stmt-For, fold_stmt-Block, fold_loop-out}
 use Rattle.species_ast.proofs.Induction.{Each, each_all, stmt_ind}
 use Rattle.species_ast.proofs.Paras.{para_stmt-Assign, para_stmt-AddTo, para_stmt-Declare, para_stmt-SetLocal, para_stmt-If}
-use Rattle.species_nests.specs.Nests.{Placed, sole_at, sole, only, Nest, nest_in, nest_of}
+use Rattle.species_nests.specs.Nests.{Placed, sole_at, sole, only, nest_in, nest_of}
 use Rattle.species_nests.proofs.NestLaws.{no_loops, sole-For, sole-Block, under}
 use Rattle.species_nests.proofs.RunningLaws.{loops_of_nest}
 use Rattle.species_occurrences.specs.Iterators.{ranges_of}

@@ -1,14 +1,13 @@
 -- The lines of planned nests are true.
-use Rattle.std.proofs.Common.{◌≡◌, refl, ap, sym, ◌∙◌, subst, arith, ℕ, zero, suc, ◌+◌, ◌<◌, ◌≤◌, true, false, List, [], ◌∷◌, ◌++◌, map, length, All, Some, None}
+use Rattle.std.proofs.Common.{◌≡◌, refl, sym, subst, arith, ℕ, suc, ◌+◌, ◌≤◌, true, false, List, [], ◌∷◌, ◌++◌, length, All}
 use Rattle.std.specs.Prelude.{Ok, IsTrue, nat_le}
 use Rattle.std.proofs.lemmas.Bool.{and_parts}
 use Rattle.std.proofs.lemmas.Bool.Decides.{nat_tests}
-use Rattle.species_annotate.specs.Annotated.{band_names, names_in, plan_line}
+use Rattle.species_annotate.specs.Annotated.{band_names, names_in}
 use Rattle.species_arcs.specs.declared.places.Arc.{Arc}
 use Rattle.species_arcs.specs.declared.plans.Nest.{Nest}
 use Rattle.species_ast.specs.Reading.{IsAccepted}
 use Rattle.species_ast.specs.Scope.Conditions.{resolved}
-use Rattle.species_ast.specs.Scope.Hulls.{Range}
 use Rattle.species_ast.specs.Scope.Nests.{front_of}
 use Rattle.species_ast.specs.Scope.WellMade.{outermost, IsWellMade}
 use Rattle.species_ast.specs.Strip.{source_of}
@@ -16,7 +15,6 @@ use Rattle.species_ast.specs.declared.raw.RawUnit.{RawUnit}
 use Rattle.species_ast.specs.declared.tree.Stmt.TheVariants as stmt
 use Rattle.species_ast.specs.declared.tree.Unit.{Unit as Program}
 use Rattle.species_ast.proofs.StripKeeps.{strip-IsWellMade}
-use Rattle.species_classify.specs.Places.{StandsIn}
 use Rattle.species_classify.specs.Plans.{AreBandArcs}
 use Rattle.species_classify.specs.declared.decide.Decision.{Decision}
 use Rattle.species_lines.specs.Lines.{Standing, LinesHold, NamesOutside, DomainsAreOutside, AdditionsAreMarked}
@@ -27,7 +25,7 @@ use Rattle.species_notation.specs.Written.{line_text}
 use Rattle.species_notation.specs.declared.given.Names.{Names}
 use Rattle.species_occurrences.specs.Iterators.{ranges_of}
 use Rattle.species_plan_truth.specs.Meetings.{PlannedNeverMeet}
-use Rattle.species_plan_truth.specs.Said.{SaidArc, arc_as_said, said_of, said_for}
+use Rattle.species_plan_truth.specs.Said.{SaidArc, arc_as_said, said_for}
 use Rattle.species_plan_truth.specs.Truth.{StandsUnder, names_there, around_nest, IsPlanned, IsTrueLine, PlannedLinesAreTrue}
 use Rattle.species_plan_truth.proofs.BandChoices.{IsChosen, chosen}
 use Rattle.species_plan_truth.proofs.BandNames.{HoldsIn, stands_in, band_names as band_names_outside}
@@ -35,6 +33,7 @@ use Rattle.species_plan_truth.proofs.LineApart.{line_apart}
 use Rattle.species_plan_truth.proofs.LineBands.{ranges_length, BandArcs}
 use Rattle.species_plan_truth.proofs.LineHolds.{each_said, line_holds}
 use Rattle.species_plan_truth.proofs.SaidLaws.{line_says}
+use Rattle.species_plan_truth.proofs.TruthStands.{stands_placed}
 
 -- ---- what is asked of names and of arcs
 
@@ -53,10 +52,6 @@ NestsAreNamed = (bytes : List ℕ) (raw : RawUnit) (u : Program) (s : Standing) 
 -- The arcs of a planned nest can be read back.
 abbrev pub PlannedArcsAreReadable : Type 0
 PlannedArcsAreReadable = (u : Program) (s : Standing) (nest : Nest) → IsWellMade u → IsPlanned u s nest → All (IsReadableArc (names_there u s)) nest.arcs
-
--- A loop under these is one of the placed loops.
-abbrev pub StandingLoopsArePlaced : Type 0
-StandingLoopsArePlaced = (u : Program) (s : Standing) → StandsUnder s.head s.around u.body → StandsIn u s.head (ranges_of [] s.around)
 
 -- ---- what a plan has
 
@@ -96,9 +91,9 @@ names_outside u s nest well p =
 
 -- ---- the law
 
-line_true : (lines : LinesHold) (domains : DomainsAreOutside) (additions : AdditionsAreMarked) (never : PlannedNeverMeet) (placed : StandingLoopsArePlaced) (readable : PlannedArcsAreReadable)
+line_true : (lines : LinesHold) (domains : DomainsAreOutside) (additions : AdditionsAreMarked) (never : PlannedNeverMeet) (readable : PlannedArcsAreReadable)
     (u : Program) (s : Standing) (nest : Nest) → IsWellMade u → AreNamedThere (names_there u s) → IsPlanned u s nest → IsTrueLine u s nest.gathered (line_text (names_there u s) nest)
-line_true lines domains additions never placed readable u s nest well names p =
+line_true lines domains additions never readable u s nest well names p =
     let b = is_band u s nest p in
     let has = planned_arcs u s nest p in
     record {
@@ -106,17 +101,17 @@ line_true lines domains additions never placed readable u s nest well names p =
       reads = line_says (names_there u s) nest names.arrays names.iters names.different_arrays names.different_iters (readable u s nest well p) b.choice.none;
       known = all_of (λ (x : SaidArc). IsTrue x.arc.known) (said_for nest.arcs) (each_said (λ (x : SaidArc). IsTrue x.arc.known) nest.arcs (each_known nest.arcs));
       holds = λ join r t here. line_holds lines domains additions join u s nest.gathered nest.arcs has (names_outside u s nest well p) r t here;
-      apart = line_apart never additions u s (decision_of nest) well (placed u s p.stands) p.plan.decision p.depth b.deep;
+      apart = line_apart never additions u s (decision_of nest) well (stands_placed u s p.stands) p.plan.decision p.depth b.deep;
     }
   where
     each_known : (arcs : List Arc) → Each (λ a. IsTrue (arc_as_said a).arc.known) arcs
     each_known [] = tt
     each_known (a ∷ arcs) = (refl, each_known arcs)
 
-pub lines_are_true : LinesHold → DomainsAreOutside → AdditionsAreMarked → PlannedNeverMeet → StandingLoopsArePlaced → NestsAreNamed → PlannedArcsAreReadable → PlannedLinesAreTrue
-lines_are_true lines domains additions never placed named readable bytes raw u s nest accepted is well p =
+pub lines_are_true : LinesHold → DomainsAreOutside → AdditionsAreMarked → PlannedNeverMeet → NestsAreNamed → PlannedArcsAreReadable → PlannedLinesAreTrue
+lines_are_true lines domains additions never named readable bytes raw u s nest accepted is well p =
     let v = source_of u in
     let depth : suc s.below ≡ nest.depth = sym p.depth in
     let b = is_band v s nest p in
     subst (λ d. IsTrueLine v s nest.gathered (line_text (names_in v ((around_nest s).iters ++ band_names d s.head [])) nest)) depth
-    (line_true lines domains additions never placed readable v s nest (strip-IsWellMade false u well) (named bytes raw u s accepted is p.stands b.deep) p)
+    (line_true lines domains additions never readable v s nest (strip-IsWellMade false u well) (named bytes raw u s accepted is p.stands b.deep) p)

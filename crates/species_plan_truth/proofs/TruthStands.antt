@@ -1,5 +1,5 @@
 -- A loop that stands under others is one of the placed loops of its unit, with the ranges of these around it.
-use Rattle.std.proofs.Common.{◌≡◌, refl, ap, sym, ◌∙◌, subst, arith, ℕ, zero, suc, ◌+◌, ◌<◌, List, [], ◌∷◌, ◌++◌, map, length}
+use Rattle.std.proofs.Common.{◌≡◌, refl, sym, subst, arith, ℕ, zero, suc, List, [], ◌∷◌, ◌++◌, map, length}
 use Rattle.std.specs.List.{Contains}
 use Rattle.species_ast.specs.Scope.Hulls.{Range, range_of}
 use Rattle.species_ast.specs.Scope.Loops as placing
