@@ -5,5 +5,7 @@ mod LineHolds
 mod LineApart
 mod BandChoices
 mod BandNames
+mod BandReadable
+mod BandNear
 mod TruthStands
 mod LineTruth
