@@ -159,9 +159,9 @@ far_fits true step a b h k =
     omega (arith, sum, steps_within step way, abs_difference b a, h, k)
 far_fits false step a b h k = omega (arith, k)
 
-record EndsFit (least greatest : text.Form) : Type 0 where
-  least : Fits (2 ^ 33) least
-  greatest : Fits (2 ^ 33) greatest
+record EndsFit (low high : text.Form) : Type 0 where
+  least : Fits (2 ^ 33) low
+  greatest : Fits (2 ^ 33) high
 
 wider : (f : text.Form) → Fits most f → Fits (2 ^ 33) f
 wider f h = record { constant = omega (arith, h.constant); coefficients = h.coefficients }

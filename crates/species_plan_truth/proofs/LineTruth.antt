@@ -32,73 +32,36 @@ use Rattle.species_plan_truth.proofs.BandNames.{HoldsIn, stands_in, band_names a
 use Rattle.species_plan_truth.proofs.LineApart.{line_apart}
 use Rattle.species_plan_truth.proofs.LineBands.{ranges_length, BandArcs}
 use Rattle.species_plan_truth.proofs.LineHolds.{each_said, line_holds}
+use Rattle.species_plan_truth.proofs.LinePlans.{decision_of, IsBand, is_band, planned_arcs, names_outside}
+use Rattle.species_plan_truth.proofs.LineReadable.{HaveDimensions, ReferencesAreBounded, arcs_readable}
 use Rattle.species_plan_truth.proofs.SaidLaws.{line_says}
 use Rattle.species_plan_truth.proofs.TruthStands.{stands_placed}
 
--- ---- what is asked of names and of arcs
+-- ---- what is asked of names
 
 -- In the unit of a text that is read, the iterators of the loops around a nest and of its band have different names of the language,
--- and so have the arrays.
-pub record AreNamedThere (names : Names) : Type 0 where
-  pub arrays : AreNames names.arrays
-  pub iters : AreNames names.iters
-  pub different_arrays : AreDifferent names.arrays
-  pub different_iters : AreDifferent names.iters
+-- and so have the arrays, each of which has a dimension.
+pub record AreNamedThere (u : Program) (s : Standing) : Type 0 where
+  pub arrays : AreNames (names_there u s).arrays
+  pub iters : AreNames (names_there u s).iters
+  pub different_arrays : AreDifferent (names_there u s).arrays
+  pub different_iters : AreDifferent (names_there u s).iters
+  pub dimensions : HaveDimensions u
 
 abbrev pub NestsAreNamed : Type 0
 NestsAreNamed = (bytes : List ℕ) (raw : RawUnit) (u : Program) (s : Standing) → IsAccepted bytes raw → resolved raw ≡ Ok u
-    → StandsUnder s.head s.around (source_of u).body → suc s.below ≤ length (front_of s.head) → AreNamedThere (names_there (source_of u) s)
-
--- The arcs of a planned nest can be read back.
-abbrev pub PlannedArcsAreReadable : Type 0
-PlannedArcsAreReadable = (u : Program) (s : Standing) (nest : Nest) → IsWellMade u → IsPlanned u s nest → All (IsReadableArc (names_there u s)) nest.arcs
-
--- ---- what a plan has
-
-abbrev decision_of : Nest → Decision
-decision_of nest = record { depth = nest.depth; mode = nest.mode; gathered = nest.gathered; reason = nest.reason }
-
--- the plan of a nest is parallel
-record IsBand (u : Program) (s : Standing) (nest : Nest) : Type 0 where
-  choice : IsChosen (length (ranges_of [] s.around)) s.head (decision_of nest)
-  deep : suc s.below ≤ length (front_of s.head)
-  within : suc s.below ≤ choice.front
-
-is_band : (u : Program) (s : Standing) (nest : Nest) → IsPlanned u s nest → IsBand u s nest
-is_band u s nest p =
-    let c = chosen u s.head (ranges_of [] s.around) (decision_of nest) p.plan.decision (omega (arith, p.depth)) in
-    let enough = longest_within (length (ranges_of [] s.around)) s c.front c.longest in
-    let within : suc s.below ≤ c.front = omega (arith, c.within, p.depth) in
-    record { choice = c; deep = omega (arith, within, enough); within = within }
-  where
-    longest_within : (level : ℕ) (s : Standing) (front : ℕ) → IsLongestBand level (front_of s.head) front → front ≤ length (front_of s.head)
-    longest_within level s front longest = let test : nat_le front (length (front_of s.head)) ≡ true = (and_parts (nat_le front (length (front_of s.head))) _ longest.is_one).0 in grind (arith, nat_tests, test)
-
-planned_arcs : (u : Program) (s : Standing) (nest : Nest) → IsPlanned u s nest → BandArcs u s nest.gathered nest.arcs
-planned_arcs u s nest p = from (subst (λ d. AreBandArcs d u s.head (ranges_of [] s.around) nest.gathered nest.arcs) p.depth p.plan.arcs)
-  where
-    from : AreBandArcs (suc s.below) u s.head (ranges_of [] s.around) nest.gathered nest.arcs → BandArcs u s nest.gathered nest.arcs
-    from (refs, bands, shown, bounds, merged) = record { deep = (is_band u s nest p).deep; refs = refs; bands = bands; shown = shown; bounds = bounds; merged = merged }
-
-names_outside : (u : Program) (s : Standing) (nest : Nest) → IsWellMade u → (p : IsPlanned u s nest) → All (NamesOutside (length s.around)) (planned_arcs u s nest p).bands
-names_outside u s nest well p =
-    let b = is_band u s nest p in
-    let has = planned_arcs u s nest p in
-    let outer : length (ranges_of [] s.around) ≡ length s.around = omega (arith, ranges_length [] s.around) in
-    let level : 0 + length s.around ≡ length s.around = omega arith in
-    let holds : HoldsIn (length s.around) (stmt.For s.head) = subst (λ n. HoldsIn n (stmt.For s.head)) level (stands_in s.head s.around u.body p.stands 0 (outermost u, refl, well.body)) in
-    band_names_outside (length s.around) s.below s.head b.choice.front has.bands holds (subst (λ n. IsLongestBand n (front_of s.head) b.choice.front) outer b.choice.longest) b.within has.bounds
+    → StandsUnder s.head s.around (source_of u).body → suc s.below ≤ length (front_of s.head) → AreNamedThere (source_of u) s
 
 -- ---- the law
 
-line_true : (lines : LinesHold) (domains : DomainsAreOutside) (additions : AdditionsAreMarked) (never : PlannedNeverMeet) (readable : PlannedArcsAreReadable)
-    (u : Program) (s : Standing) (nest : Nest) → IsWellMade u → AreNamedThere (names_there u s) → IsPlanned u s nest → IsTrueLine u s nest.gathered (line_text (names_there u s) nest)
-line_true lines domains additions never readable u s nest well names p =
+line_true : (lines : LinesHold) (domains : DomainsAreOutside) (additions : AdditionsAreMarked) (never : PlannedNeverMeet) (bounded : ReferencesAreBounded)
+    (u : Program) (s : Standing) (nest : Nest) → IsWellMade u → AreNamedThere u s → IsPlanned u s nest → IsTrueLine u s nest.gathered (line_text (names_there u s) nest)
+line_true lines domains additions never bounded u s nest well names p =
     let b = is_band u s nest p in
     let has = planned_arcs u s nest p in
     record {
       said = said_for nest.arcs;
-      reads = line_says (names_there u s) nest names.arrays names.iters names.different_arrays names.different_iters (readable u s nest well p) b.choice.none;
+      reads = line_says (names_there u s) nest names.arrays names.iters names.different_arrays names.different_iters (arcs_readable bounded u s nest well names.dimensions p) b.choice.none;
       known = all_of (λ (x : SaidArc). IsTrue x.arc.known) (said_for nest.arcs) (each_said (λ (x : SaidArc). IsTrue x.arc.known) nest.arcs (each_known nest.arcs));
       holds = λ join r t here. line_holds lines domains additions join u s nest.gathered nest.arcs has (names_outside u s nest well p) r t here;
       apart = line_apart never additions u s (decision_of nest) well (stands_placed u s p.stands) p.plan.decision p.depth b.deep;
@@ -108,10 +71,10 @@ line_true lines domains additions never readable u s nest well names p =
     each_known [] = tt
     each_known (a ∷ arcs) = (refl, each_known arcs)
 
-pub lines_are_true : LinesHold → DomainsAreOutside → AdditionsAreMarked → PlannedNeverMeet → NestsAreNamed → PlannedArcsAreReadable → PlannedLinesAreTrue
-lines_are_true lines domains additions never named readable bytes raw u s nest accepted is well p =
+pub lines_are_true : LinesHold → DomainsAreOutside → AdditionsAreMarked → PlannedNeverMeet → NestsAreNamed → ReferencesAreBounded → PlannedLinesAreTrue
+lines_are_true lines domains additions never named bounded bytes raw u s nest accepted is well p =
     let v = source_of u in
     let depth : suc s.below ≡ nest.depth = sym p.depth in
     let b = is_band v s nest p in
     subst (λ d. IsTrueLine v s nest.gathered (line_text (names_in v ((around_nest s).iters ++ band_names d s.head [])) nest)) depth
-    (line_true lines domains additions never readable v s nest (strip-IsWellMade false u well) (named bytes raw u s accepted is p.stands b.deep) p)
+    (line_true lines domains additions never bounded v s nest (strip-IsWellMade false u well) (named bytes raw u s accepted is p.stands b.deep) p)
