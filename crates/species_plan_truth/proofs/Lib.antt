@@ -5,3 +5,17 @@ mod AddCountLemmas
 mod MeetLemmas
 pub mod MeetLaws
 pub mod MeetRunLaws
+pub mod SaidLaws
+mod LineMarks
+mod LineBands
+mod LineHolds
+mod LineApart
+mod BandChoices
+mod BandNames
+mod BandDeep
+mod BandReadable
+mod BandNear
+mod TruthStands
+mod LinePlans
+mod LineReadable
+mod LineTruth
