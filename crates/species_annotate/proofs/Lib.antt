@@ -3,7 +3,5 @@ mod HeadLemmas
 mod MadeLemmas
 mod NameLemmas
 mod SourceLemmas
-mod SpeltLemmas
-mod TextLemmas
 mod UnitLemmas
 mod WalkLemmas

@@ -9,12 +9,10 @@ use Rattle.species_ast.specs.Scope.WellMade.{IsWellMade}
 use Rattle.species_ast.specs.Strip.{source_of}
 use Rattle.species_ast.proofs.StripKeeps.{strip-IsWellMade, strip-HasReadSize}
 use Rattle.species_notation.specs.declared.given.Names.{Names}
-use Rattle.species_readback.specs.Spelt.{IsSpelt, HasSpeltMarks}
 use Rattle.species_annotate.specs.Annotated.{outside, names_in, BecomeAll, IsAnnotated}
 use Rattle.species_annotate.specs.Loops.{heads_in_list, heads_of, LoopsLeft}
 use Rattle.species_annotate.proofs.MadeLemmas.{well_made, read_size}
 use Rattle.species_annotate.proofs.SourceLemmas.{same_source, unmarked as no_marks}
-use Rattle.species_annotate.proofs.SpeltLemmas.{spelt_marks}
 use Rattle.species_annotate.proofs.WalkLemmas.{AllBecome}
 
 pub body_becomes : (u : Program) (l : LoopsLeft) (names : Names) (p new : List Stmt) → l ≡ record { unit = u; left = heads_of u } → names ≡ names_in u [] → p ≡ u.body → AllBecome l.unit names l.left p new
@@ -31,7 +29,6 @@ pub record IsLined (u v : Program) : Type 0 where
   pub unmarked : IsUnmarked v
   pub well_made : IsWellMade v
   pub size : HasReadSize u → HasReadSize v
-  pub written : IsSpelt u → HasSpeltMarks v
 
 is_lined : (u v : Program) → IsWellMade u → IsAnnotated u v → IsLined u v
 is_lined u v well h =
@@ -42,7 +39,6 @@ is_lined u v well h =
       unmarked = no_marks u v h;
       well_made = well_made v (no_marks u v h) (subst IsWellMade (sym same) (strip-IsWellMade false u well));
       size = λ small. read_size v (subst HasReadSize (sym same) (strip-HasReadSize false u small));
-      written = λ spelt. spelt_marks u v spelt h;
     }
 
 pub annotated : (u s : Program) (body : List Stmt) → IsWellMade u → s ≡ source_of u → BecomeAll s outside s.body body → IsLined u (record s { body = body })

@@ -12,7 +12,6 @@ ghost use Rattle.species_ast.specs.Marks.{IsUnmarked};
 ghost use Rattle.species_ast.specs.Scope.References.{HasReadSize};
 ghost use Rattle.species_ast.specs.Scope.WellMade.{IsWellMade};
 ghost use Rattle.species_ast.specs.Strip.{source_of};
-ghost use Rattle.species_readback.specs.Spelt.{IsSpelt, HasSpeltMarks};
 ghost use Rattle.species_annotate.specs.Annotated.{Around, names_in, BecomesStmt, BecomeAll, IsAnnotated, outside};
 ghost use Rattle.species_annotate.specs.Loops.{Head, heads_in, heads_in_list};
 
@@ -192,8 +191,7 @@ fn annotated_body(alloc: Global, unit: &Unit) -> Result<Items<Stmt>, OutOfMemory
     Ok(annotate_list(alloc, unit.body.as_slice(), &mut loops, &mut names)?)
 }
 
-/// The unit with the species line of each nest that is planned, and without any other marks or lines. Its lines
-/// can be written where the names of the unit can.
+/// The unit with the species line of each nest that is planned, and without any other marks or lines.
 pub fn annotate(alloc: Global, unit: &Unit) -> Result<Unit, OutOfMemory>
     requires { IsWellMade unit.now }
     ensures plan { IfOk result (IsAnnotated unit.now) }
@@ -201,7 +199,6 @@ pub fn annotate(alloc: Global, unit: &Unit) -> Result<Unit, OutOfMemory>
     ensures unmarked { IfOk result IsUnmarked }
     ensures well_made { IfOk result IsWellMade }
     ensures size { HasReadSize unit.now → IfOk result HasReadSize }
-    ensures written { IsSpelt unit.now → IfOk result HasSpeltMarks }
 {
     let source = strip(alloc, unit, false)?;
     let body = annotated_body(alloc, &source)?;

@@ -15,6 +15,3 @@ returns-clause-well_made c = (annotated c.args.unit.now c.in_ok-source.source c.
 
 pub returns-clause-size : goal.returns-clause-size
 returns-clause-size c = (annotated c.args.unit.now c.in_ok-source.source c.in_ok-body.body c.requires c.in_ok-source.ensures.value c.in_ok-body.ensures).size
-
-pub returns-clause-written : goal.returns-clause-written
-returns-clause-written c = (annotated c.args.unit.now c.in_ok-source.source c.in_ok-body.body c.requires c.in_ok-source.ensures.value c.in_ok-body.ensures).written
