@@ -19,3 +19,8 @@ mod TruthStands
 mod LinePlans
 mod LineReadable
 mod LineTruth
+mod TruthApart
+mod TruthLawful
+mod TruthNames
+mod LineNames
+mod TruthSpelt

@@ -19,6 +19,7 @@ use Rattle.species_ast.specs.declared.tree.Stmt.TheVariants as stmt
 use Rattle.species_ast.specs.declared.tree.Unit.{Unit as Program}
 use Rattle.species_ast.proofs.Induction.{Each}
 use Rattle.species_classify.specs.Places.{StandsIn}
+use Rattle.species_classify.proofs.PlaceLaws.{IsPlaced, standing_placed}
 use Rattle.species_lines.specs.Lines.{Standing, NamesOutside}
 use Rattle.species_merge.specs.Arcs.{AreArcsOf}
 use Rattle.species_merge.specs.Bounds.{IsBoundOf}
@@ -30,6 +31,7 @@ use Rattle.species_merge.proofs.SettledLaws.{references_are_settled}
 use Rattle.species_nests.specs.Nests.{Placed, nest_of}
 use Rattle.species_notation.specs.Law.{IsReadableArc}
 use Rattle.species_occurrences.specs.Iterators.{ranges_of}
+use Rattle.species_occurrences.proofs.PositionLaws.{each_weaker}
 use Rattle.species_ranges.proofs.BoundedLaws.{IsSize, IsBounded}
 use Rattle.species_ranges.proofs.MergeableLaws.{mergeable}
 use Rattle.species_references.specs.Law.{HasTurns}
@@ -107,3 +109,8 @@ arcs_readable bounded u s nest well dims p =
     let good = all_good u inner has.refs qs dims has.shown (bounded (adds_of nest.gathered) u s.head path [] (suc s.below) well (stands_placed u s p.stands))
     (each_of (HasTurns inner) qs (references_have_turns (adds_of nest.gathered) s.head [] path (suc s.below))) (each_of (AreSettled inner) qs (references_are_settled (adds_of nest.gathered) s.head [] path (suc s.below))) in
     band_readable (length s.around) has.bands near (names_there u s) names few has.refs nest.arcs good (subst (λ n. AreArcsOf n has.bands has.refs nest.arcs) outer has.merged)
+
+pub references_are_bounded : ReferencesAreBounded
+references_are_bounded adds u head path at depth well stands =
+    let inner = length path + depth in
+    each_weaker (IsPlaced u inner) (IsBounded u inner) (λ q h. h.bounded) (references_of adds head at path depth) (standing_placed adds u head path at depth well stands)

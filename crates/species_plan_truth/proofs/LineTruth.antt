@@ -32,27 +32,11 @@ use Rattle.species_plan_truth.proofs.BandNames.{HoldsIn, stands_in, band_names a
 use Rattle.species_plan_truth.proofs.LineApart.{line_apart}
 use Rattle.species_plan_truth.proofs.LineBands.{ranges_length, BandArcs}
 use Rattle.species_plan_truth.proofs.LineHolds.{each_said, line_holds}
+use Rattle.species_plan_truth.proofs.LineNames.{AreNamedThere, UnitsAreNamed, nest_named}
 use Rattle.species_plan_truth.proofs.LinePlans.{decision_of, IsBand, is_band, planned_arcs, names_outside}
 use Rattle.species_plan_truth.proofs.LineReadable.{HaveDimensions, ReferencesAreBounded, arcs_readable}
 use Rattle.species_plan_truth.proofs.SaidLaws.{line_says}
 use Rattle.species_plan_truth.proofs.TruthStands.{stands_placed}
-
--- ---- what is asked of names
-
--- In the unit of a text that is read, the iterators of the loops around a nest and of its band have different names of the language,
--- and so have the arrays, each of which has a dimension.
-pub record AreNamedThere (u : Program) (s : Standing) : Type 0 where
-  pub arrays : AreNames (names_there u s).arrays
-  pub iters : AreNames (names_there u s).iters
-  pub different_arrays : AreDifferent (names_there u s).arrays
-  pub different_iters : AreDifferent (names_there u s).iters
-  pub dimensions : HaveDimensions u
-
-abbrev pub NestsAreNamed : Type 0
-NestsAreNamed = (bytes : List ℕ) (raw : RawUnit) (u : Program) (s : Standing) → IsAccepted bytes raw → resolved raw ≡ Ok u
-    → StandsUnder s.head s.around (source_of u).body → suc s.below ≤ length (front_of s.head) → AreNamedThere (source_of u) s
-
--- ---- the law
 
 line_true : (lines : LinesHold) (domains : DomainsAreOutside) (additions : AdditionsAreMarked) (never : PlannedNeverMeet) (bounded : ReferencesAreBounded)
     (u : Program) (s : Standing) (nest : Nest) → IsWellMade u → AreNamedThere u s → IsPlanned u s nest → IsTrueLine u s nest.gathered (line_text (names_there u s) nest)
@@ -71,10 +55,9 @@ line_true lines domains additions never bounded u s nest well names p =
     each_known [] = tt
     each_known (a ∷ arcs) = (refl, each_known arcs)
 
-pub lines_are_true : LinesHold → DomainsAreOutside → AdditionsAreMarked → PlannedNeverMeet → NestsAreNamed → ReferencesAreBounded → PlannedLinesAreTrue
-lines_are_true lines domains additions never named bounded bytes raw u s nest accepted is well p =
+pub lines_are_true : LinesHold → DomainsAreOutside → AdditionsAreMarked → PlannedNeverMeet → UnitsAreNamed → ReferencesAreBounded → PlannedLinesAreTrue
+lines_are_true lines domains additions never units bounded bytes raw u s nest accepted is well p =
     let v = source_of u in
     let depth : suc s.below ≡ nest.depth = sym p.depth in
-    let b = is_band v s nest p in
     subst (λ d. IsTrueLine v s nest.gathered (line_text (names_in v ((around_nest s).iters ++ band_names d s.head [])) nest)) depth
-    (line_true lines domains additions never bounded v s nest (strip-IsWellMade false u well) (named bytes raw u s accepted is p.stands b.deep) p)
+    (line_true lines domains additions never bounded v s nest (strip-IsWellMade false u well) (nest_named units bytes raw u s accepted is p.stands) p)
