@@ -1,14 +1,13 @@
 -- What is folded over a statement without marks, atomic additions and lines.
-use Rattle.std.proofs.Common.{◌≡◌, ◌∙◌, ap, refl, sym, ℕ, Bool, true, false, List, [], ◌∷◌, map, None}
+use Rattle.std.proofs.Common.{◌≡◌, ◌∙◌, ap, refl, sym, ℕ, Bool, false, List, [], ◌∷◌, map, None}
 use Rattle.species_ast.specs.declared.tree.Expr.{Expr}
 use Rattle.species_ast.specs.declared.tree.Mark.TheVariants.{Plain}
 use Rattle.species_ast.specs.declared.tree.Stmt.{Stmt, fold-Stmt, fold-roll-Stmt}
 use Rattle.species_ast.specs.declared.tree.Stmt.TheOpen.{Stmt-F, Loop-F}
-use Rattle.species_ast.specs.declared.tree.Stmt.TheVariants as stmt
 use Rattle.species_ast.specs.declared.tree.Loop.{Loop, roll-Loop, fold-Loop}
 use Rattle.species_ast.specs.Strip.{strip_step, strip_layer, strip_stmt, strip_loop}
 use Rattle.species_ast.proofs.Folds.{fold_stmt-Assign, fold_stmt-AddTo, fold_stmt-Declare, fold_stmt-SetLocal, fold_stmt-If, fold_stmt-For, fold_stmt-Block, fold_loop}
-use Rattle.species_ast.proofs.Induction.{Each, StmtCases, stmt_ind}
+use Rattle.species_ast.proofs.Induction.{Each, stmt_ind}
 
 abbrev pub bare : Stmt → Stmt
 bare = strip_stmt false

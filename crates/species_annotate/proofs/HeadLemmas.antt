@@ -12,7 +12,7 @@ use Rattle.species_ast.specs.declared.tree.Loop.{Loop, out-Loop, roll-out-Loop}
 use Rattle.species_ast.specs.declared.tree.Unit.{Unit as Program}
 use Rattle.species_ast.specs.Scope.Hulls.{Range, range_of, passes_hull}
 use Rattle.species_ast.specs.Scope.Loops.{no_loops, Standing, numbered, standing_in, PlacedLoop, list_loops, loops_in, outside_loops, placed_loops}
-use Rattle.species_ast.specs.Scope.WellMade.{Made, made, list_keeps, IsWellMade}
+use Rattle.species_ast.specs.Scope.WellMade.{made, list_keeps, IsWellMade}
 use Rattle.species_ast.proofs.Folds.{fold_stmt-If, fold_stmt-For, fold_stmt-Block, fold_loop-out}
 use Rattle.species_occurrences.proofs.PositionLaws.{loops_in-Assign, loops_in-AddTo, loops_in-Declare, loops_in-SetLocal, loops_in-If, loops_in-For, loops_in-Block}
 use Rattle.species_classify.specs.Places.{StandsIn}

@@ -1,5 +1,5 @@
 -- The names of the iterators of a band, loop by loop.
-use Rattle.std.proofs.Common.{◌≡◌, refl, ap, sym, ◌∙◌, subst, arith, ℕ, zero, suc, ◌+◌, ◌-◌, ◌<◌, ◌≤◌, Bool, List, [], ◌∷◌, ◌++◌, map, take, take_all, length, get_or, append_assoc, append-nil, Option, Some, None}
+use Rattle.std.proofs.Common.{◌≡◌, refl, ap, sym, ◌∙◌, arith, ℕ, zero, suc, ◌+◌, ◌-◌, ◌<◌, ◌≤◌, Bool, List, [], ◌∷◌, ◌++◌, map, take, take_all, length, get_or, append_assoc, append-nil, Option, Some, None}
 use Rattle.std.specs.Prelude.{MatchOption}
 use Rattle.std.proofs.lemmas.List.{map-append, take_more}
 use Rattle.species_arcs.specs.declared.plans.Nest.{Nest}
@@ -10,7 +10,7 @@ use Rattle.species_ast.specs.declared.tree.Stmt.TheVariants as stmt
 use Rattle.species_ast.specs.declared.tree.Unit.{Unit as Program}
 use Rattle.species_ast.specs.Line.{Line}
 use Rattle.species_ast.proofs.Paras.{para_stmt-Assign, para_stmt-AddTo, para_stmt-Declare, para_stmt-SetLocal, para_stmt-If}
-use Rattle.species_nests.specs.Nests.{Placed, sole_at, sole, only, nest_in, nest_of}
+use Rattle.species_nests.specs.Nests.{Placed, sole_at, sole, only, nest_in}
 use Rattle.species_nests.proofs.NestLaws.{under, no_loops, sole-For, sole-Block}
 use Rattle.species_notation.specs.declared.given.Names.{Names}
 use Rattle.species_notation.specs.Written.{line_text}

@@ -1,18 +1,16 @@
 -- What a unit becomes has the same source, and no marks.
-use Rattle.std.proofs.Common.{◌≡◌, ◌∙◌, refl, sym, ap, subst, ℕ, zero, suc, Bool, true, false, ◌&&◌, not, List, [], ◌∷◌, map, Option, Some, None}
+use Rattle.std.proofs.Common.{◌≡◌, ◌∙◌, refl, sym, ap, ℕ, Bool, true, false, ◌&&◌, not, List, [], ◌∷◌, map, Some}
 use Rattle.std.specs.List.{list_all}
 use Rattle.std.proofs.lemmas.Bool.{and_parts, and_from}
-use Rattle.species_arcs.specs.declared.plans.Nest.{Nest}
-use Rattle.species_ast.specs.declared.tree.Expr.{Expr}
 use Rattle.species_ast.specs.declared.tree.Mark.TheVariants.{Plain}
 use Rattle.species_ast.specs.declared.tree.Stmt.{Stmt}
 use Rattle.species_ast.specs.declared.tree.Stmt.TheVariants as stmt
 use Rattle.species_ast.specs.declared.tree.Stmt.TheOpen.{Stmt-F, Loop-F}
-use Rattle.species_ast.specs.declared.tree.Loop.{Loop, out-Loop, roll-Loop}
+use Rattle.species_ast.specs.declared.tree.Loop.{Loop, out-Loop}
 use Rattle.species_ast.specs.declared.tree.Unit.{Unit as Program}
 use Rattle.species_ast.specs.Line.{Line}
 use Rattle.species_ast.specs.Marks.{all_true, test_step, test_layer, is_plain, unmarked_stmt, IsUnmarked}
-use Rattle.species_ast.specs.Strip.{strip_step, strip_layer, strip_stmt, strip_of, source_of}
+use Rattle.species_ast.specs.Strip.{strip_step, strip_layer, strip_stmt, source_of}
 use Rattle.species_ast.proofs.Folds.{fold_stmt-If, fold_stmt-For, fold_stmt-Block, fold_loop, fold_loop-out}
 use Rattle.species_ast.proofs.StripLaws.{strip_of-again, strip_of-IsUnmarked}
 use Rattle.species_annotate.specs.Annotated.{Around, within, plan_line, lined, BecomesStmt, BecomesBody, BecomeAll, assign, add_to, declare, set_local, choice, block, loop, parallel, sequential, none, more, outside, IsAnnotated}

@@ -1,11 +1,11 @@
 -- The numbers in the bounds of a band are small.
-use Rattle.std.proofs.Common.{◌≡◌, refl, ap, sym, ◌∙◌, subst, arith, ℕ, zero, suc, ◌+◌, ◌*◌, ◌/◌, ◌<◌, ◌≤◌, ◌^◌, Bool, true, false, ◌&&◌, nat_lt, if◌then◌else◌, List, [], ◌∷◌, map, length, slice_index_or, ℤ, pos, negsuc, neg_ℤ, ◌+ℤ◌, ◌-ℤ◌, ◌*ℤ◌, Option, Some, None, All}
+use Rattle.std.proofs.Common.{◌≡◌, refl, sym, subst, arith, ℕ, zero, suc, ◌*◌, ◌/◌, ◌≤◌, ◌^◌, Bool, true, false, ◌&&◌, if◌then◌else◌, List, [], ◌∷◌, slice_index_or, ℤ, pos, negsuc, ◌-ℤ◌, ◌*ℤ◌, Option, Some, None}
 use Rattle.std.specs.Prelude.{int_le}
 use Rattle.std.specs.Int.RustNames.{unsigned_abs}
 use Rattle.std.specs.List.{list_all}
 use Rattle.std.proofs.lemmas.Bool.{and_parts}
 use Rattle.std.proofs.lemmas.Bool.Decides.{nat_tests}
-use Rattle.std.proofs.lemmas.Int.{ints, unsigned_abs-mul}
+use Rattle.std.proofs.lemmas.Int.{unsigned_abs-mul}
 use Rattle.species_affine.specs.Subscript.{IsSameForm}
 use Rattle.species_arcs.specs.Pairwise.{Pairwise}
 use Rattle.species_ast.specs.Scope.Forms as text
@@ -25,9 +25,7 @@ use Rattle.species_ast.specs.declared.tree.Value.TheVariants as value
 use Rattle.species_ast.proofs.Folds.{fold_expr-Literal, fold_expr-Iter, fold_expr-Local, fold_expr-Elem, fold_expr-Unary, fold_expr-Binary, fold_expr-And, fold_expr-Or, fold_expr-Cond, fold_expr-Cast}
 use Rattle.species_ast.proofs.Induction.{expr_ind}
 use Rattle.species_integers.proofs.Sizes.{abs_sum, abs_difference}
-use Rattle.species_linear.specs.Value.{coefficient_at}
 use Rattle.species_linear.specs.declared.forms.Form.{Form}
-use Rattle.species_linear.specs.declared.forms.Term.{Term}
 use Rattle.species_lines.specs.Lines.{NamesOutside}
 use Rattle.species_linear.specs.Value.{NamesOnly}
 use Rattle.species_merge.specs.Bounds.{range_ends, ends_by, ends_of, IsBoundOf}

@@ -1,6 +1,6 @@
 -- The arcs of a band can be read back, where the numbers of its references and bounds are small, and the bounds name iterators of the loops
 -- around the nest alone.
-use Rattle.std.proofs.Common.{◌≡◌, ◌≢◌, refl, ap, sym, ◌∙◌, subst, arith, ℕ, zero, suc, ◌+◌, ◌-◌, ◌*◌, ◌<◌, ◌≤◌, ◌^◌, Bool, true, false, nat_eq, nat_lt, if◌then◌else◌, List, [], ◌∷◌, length, slice_index_or, ℤ, pos, ◌+ℤ◌, ◌-ℤ◌, ◌*ℤ◌, ◌≤ℤ◌, All, inl, inr, ◌⊎◌}
+use Rattle.std.proofs.Common.{◌≡◌, ◌≢◌, refl, ap, sym, ◌∙◌, subst, arith, ℕ, zero, suc, ◌+◌, ◌-◌, ◌*◌, ◌<◌, ◌≤◌, ◌^◌, Bool, true, false, nat_eq, nat_lt, if◌then◌else◌, List, [], ◌∷◌, length, slice_index_or, ℤ, pos, ◌+ℤ◌, ◌-ℤ◌, ◌*ℤ◌, All}
 use Rattle.std.specs.Int.{◌∣◌}
 use Rattle.std.specs.Int.RustNames.{unsigned_abs, int_lt}
 use Rattle.std.specs.Ordering.{int_eq}
@@ -8,7 +8,6 @@ use Rattle.std.proofs.lemmas.Bool.{eq-eqb}
 use Rattle.std.proofs.lemmas.Bool.Decides.{nat_tests, Decides-int_eq}
 use Rattle.std.proofs.lemmas.Int.{ints}
 use Rattle.std.proofs.lemmas.Nat.{mul-le}
-use Rattle.std.proofs.lemmas.Nat.Gcd.{dvd-zero}
 use Rattle.std.proofs.Math.IntN.{*ℤ_comm}
 use Rattle.species_affine.specs.Subscript.{HasFormNumbers}
 use Rattle.species_affine.specs.Limited.{IsWithin}
@@ -30,14 +29,14 @@ use Rattle.species_linear.proofs.Agree.{form_at-agree, form_at-agree_below}
 use Rattle.species_linear.proofs.Magnitude.{abs_sum_at}
 use Rattle.species_linear.proofs.Order.{few_terms}
 use Rattle.species_merge.specs.Arcs.{added_in, IsDimOf, AreDimsFrom, IsArcOf, AreArcsOf}
-use Rattle.species_merge.specs.Bands.{zero_form, no_bound, bound_at, end_form, ends_at, IsEndOf}
-use Rattle.species_merge.specs.Classes.{terms_of, terms_below, Class, members, classes_of, box_at, column}
+use Rattle.species_merge.specs.Bands.{zero_form, bound_at, end_form, ends_at, IsEndOf}
+use Rattle.species_merge.specs.Classes.{terms_of, Class, members, classes_of, box_at, column}
 use Rattle.species_merge.specs.Hulls.{IsHullOf}
-use Rattle.species_merge.specs.Sizes.{IsSmallBox, HasSmallBoxes}
+use Rattle.species_merge.specs.Sizes.{IsSmallBox}
 use Rattle.species_merge.specs.declared.bands.BandBound.{BandBound}
-use Rattle.species_merge.proofs.ArcLemmas.{hull_small, column_boxes, fixed_levels}
-use Rattle.species_merge.proofs.ClassLemmas.{has_with, has_more, each_more, each_filter, each_member}
-use Rattle.species_merge.proofs.Folding.{Each, Has, all_of, each_of, has_of}
+use Rattle.species_merge.proofs.ArcLemmas.{hull_small, fixed_levels}
+use Rattle.species_merge.proofs.ClassLemmas.{has_with, each_more, each_filter, each_member}
+use Rattle.species_merge.proofs.Folding.{Each, all_of, each_of, has_of}
 use Rattle.species_merge.proofs.SetLaws.{hull_holds}
 use Rattle.species_notation.specs.Law.{IsReadable, IsReadableDim, IsReadableArc}
 use Rattle.species_notation.specs.declared.given.Names.{Names}

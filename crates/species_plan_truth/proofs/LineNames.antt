@@ -1,5 +1,5 @@
 -- The names in the line of a planned nest are names of the language, and different.
-use Rattle.std.proofs.Common.{◌≡◌, ◌<◌, ◌≤◌, suc, true, ℕ, List, [], ◌++◌, map, length}
+use Rattle.std.proofs.Common.{◌≡◌, true, ℕ, List, map}
 use Rattle.std.specs.Prelude.{Ok}
 use Rattle.species_ast.specs.Marks.{all_true}
 use Rattle.species_ast.specs.Reading.{IsAccepted}

@@ -1,5 +1,5 @@
 -- The arcs of a planned nest can be read back.
-use Rattle.std.proofs.Common.{◌≡◌, refl, ap, sym, ◌∙◌, subst, arith, ℕ, zero, suc, ◌+◌, ◌<◌, ◌≤◌, List, [], ◌∷◌, ◌++◌, map, drop, length, All}
+use Rattle.std.proofs.Common.{◌≡◌, refl, sym, ◌∙◌, subst, arith, ℕ, zero, suc, ◌+◌, ◌<◌, ◌≤◌, List, [], ◌∷◌, map, drop, length, All}
 use Rattle.std.specs.Prelude.{slice_get, unwrap_or, option_map}
 use Rattle.std.proofs.lemmas.List.{length-map, length-append}
 use Rattle.species_annotate.specs.Annotated.{band_names}
@@ -15,7 +15,6 @@ use Rattle.species_ast.specs.Scope.References.{Adding, Reference, references_of}
 use Rattle.species_ast.specs.Scope.WellMade.{IsWellMade}
 use Rattle.species_ast.specs.declared.tree.Array.{Array}
 use Rattle.species_ast.specs.declared.tree.Loop.{Loop, out-Loop}
-use Rattle.species_ast.specs.declared.tree.Stmt.TheVariants as stmt
 use Rattle.species_ast.specs.declared.tree.Unit.{Unit as Program}
 use Rattle.species_ast.proofs.Induction.{Each}
 use Rattle.species_classify.specs.Places.{StandsIn}
@@ -42,8 +41,8 @@ use Rattle.species_truth.proofs.WholeBoxes.{Settles, boxes_whole}
 use Rattle.species_plan_truth.specs.Truth.{names_there, around_nest, IsPlanned}
 use Rattle.species_plan_truth.proofs.BandDeep.{stands_kept, nest_shallow}
 use Rattle.species_plan_truth.proofs.BandNear.{bounds_near}
-use Rattle.species_plan_truth.proofs.BandReadable.{IsWholeBox, IsGoodHeld, band_readable}
-use Rattle.species_plan_truth.proofs.LineBands.{ranges_length, BandArcs}
+use Rattle.species_plan_truth.proofs.BandReadable.{IsGoodHeld, band_readable}
+use Rattle.species_plan_truth.proofs.LineBands.{ranges_length}
 use Rattle.species_plan_truth.proofs.LinePlans.{planned_arcs, names_outside}
 use Rattle.species_plan_truth.proofs.TruthStands.{stands_placed}
 

@@ -1,40 +1,24 @@
 -- The lines of planned nests are true.
-use Rattle.std.proofs.Common.{◌≡◌, refl, sym, subst, arith, ℕ, suc, ◌+◌, ◌≤◌, true, false, List, [], ◌∷◌, ◌++◌, length, All}
-use Rattle.std.specs.Prelude.{Ok, IsTrue, nat_le}
-use Rattle.std.proofs.lemmas.Bool.{and_parts}
-use Rattle.std.proofs.lemmas.Bool.Decides.{nat_tests}
+use Rattle.std.proofs.Common.{◌≡◌, refl, sym, subst, suc, false, List, [], ◌∷◌, ◌++◌}
+use Rattle.std.specs.Prelude.{IsTrue}
 use Rattle.species_annotate.specs.Annotated.{band_names, names_in}
 use Rattle.species_arcs.specs.declared.places.Arc.{Arc}
 use Rattle.species_arcs.specs.declared.plans.Nest.{Nest}
-use Rattle.species_ast.specs.Reading.{IsAccepted}
-use Rattle.species_ast.specs.Scope.Conditions.{resolved}
-use Rattle.species_ast.specs.Scope.Nests.{front_of}
-use Rattle.species_ast.specs.Scope.WellMade.{outermost, IsWellMade}
+use Rattle.species_ast.specs.Scope.WellMade.{IsWellMade}
 use Rattle.species_ast.specs.Strip.{source_of}
-use Rattle.species_ast.specs.declared.raw.RawUnit.{RawUnit}
-use Rattle.species_ast.specs.declared.tree.Stmt.TheVariants as stmt
 use Rattle.species_ast.specs.declared.tree.Unit.{Unit as Program}
 use Rattle.species_ast.proofs.StripKeeps.{strip-IsWellMade}
-use Rattle.species_classify.specs.Plans.{AreBandArcs}
-use Rattle.species_classify.specs.declared.decide.Decision.{Decision}
-use Rattle.species_lines.specs.Lines.{Standing, LinesHold, NamesOutside, DomainsAreOutside, AdditionsAreMarked}
-use Rattle.species_loops.specs.Bands.{IsLongestBand}
+use Rattle.species_lines.specs.Lines.{Standing, LinesHold, DomainsAreOutside, AdditionsAreMarked}
 use Rattle.species_merge.proofs.Folding.{Each, all_of}
-use Rattle.species_notation.specs.Law.{AreNames, AreDifferent, IsReadableArc}
 use Rattle.species_notation.specs.Written.{line_text}
-use Rattle.species_notation.specs.declared.given.Names.{Names}
-use Rattle.species_occurrences.specs.Iterators.{ranges_of}
 use Rattle.species_plan_truth.specs.Meetings.{PlannedNeverMeet}
 use Rattle.species_plan_truth.specs.Said.{SaidArc, arc_as_said, said_for}
-use Rattle.species_plan_truth.specs.Truth.{StandsUnder, names_there, around_nest, IsPlanned, IsTrueLine, PlannedLinesAreTrue}
-use Rattle.species_plan_truth.proofs.BandChoices.{IsChosen, chosen}
-use Rattle.species_plan_truth.proofs.BandNames.{HoldsIn, stands_in, band_names as band_names_outside}
+use Rattle.species_plan_truth.specs.Truth.{names_there, around_nest, IsPlanned, IsTrueLine, PlannedLinesAreTrue}
 use Rattle.species_plan_truth.proofs.LineApart.{line_apart}
-use Rattle.species_plan_truth.proofs.LineBands.{ranges_length, BandArcs}
 use Rattle.species_plan_truth.proofs.LineHolds.{each_said, line_holds}
 use Rattle.species_plan_truth.proofs.LineNames.{AreNamedThere, UnitsAreNamed, nest_named}
-use Rattle.species_plan_truth.proofs.LinePlans.{decision_of, IsBand, is_band, planned_arcs, names_outside}
-use Rattle.species_plan_truth.proofs.LineReadable.{HaveDimensions, ReferencesAreBounded, arcs_readable}
+use Rattle.species_plan_truth.proofs.LinePlans.{decision_of, is_band, planned_arcs, names_outside}
+use Rattle.species_plan_truth.proofs.LineReadable.{ReferencesAreBounded, arcs_readable}
 use Rattle.species_plan_truth.proofs.SaidLaws.{line_says}
 use Rattle.species_plan_truth.proofs.TruthStands.{stands_placed}
 

@@ -1,7 +1,7 @@
 -- The iterators of loops, one in the other, have different names in the unit of a lawful program.
-use Rattle.std.proofs.Common.{◌≡◌, ◌≢◌, ◌∙◌, refl, sym, ap, subst, arith, ℕ, zero, suc, ◌+◌, ◌<◌, List, [], ◌∷◌, ◌++◌, map, length, Option, Some, None, Bool, true, false, ◌&&◌, ◌||◌, not, if◌then◌else◌}
+use Rattle.std.proofs.Common.{◌≡◌, ◌∙◌, refl, sym, ap, subst, ℕ, List, [], ◌∷◌, ◌++◌, map, Option, Some, None, Bool, true, false, ◌&&◌, ◌||◌, not, if◌then◌else◌}
 use Rattle.std.specs.Prelude.{bytes_eq, is_some, option_map, unwrap_or, pos}
-use Rattle.std.specs.List.{list_all, list_any, flat_map, filter_map}
+use Rattle.std.specs.List.{list_all, list_any}
 use Rattle.std.proofs.lemmas.Bool.{and_parts, and_from}
 use Rattle.std.proofs.lemmas.List.Folds.{list_all-append}
 use Rattle.std.proofs.lemmas.Slice.Eq.{bytes_eq-Decides}
@@ -25,9 +25,9 @@ use Rattle.species_ast.specs.declared.raw.RawTarget.{RawTarget}
 use Rattle.species_ast.specs.declared.raw.RawWhat.{RawWhat, roll-RawWhat, map-RawWhat, fold-RawWhat, fold-roll-RawWhat}
 use Rattle.species_ast.specs.declared.raw.RawLoop.{RawLoop, roll-RawLoop, map-RawLoop, fold-RawLoop, fold-roll-RawLoop}
 use Rattle.species_ast.specs.declared.raw.RawWhat.TheOpen.{RawWhat-F, RawLoop-F}
-use Rattle.species_ast.specs.Scope.Meanings.{Meaning, Scope, meaning_in, scope_with_local, in_loop, is_among, behind, local_number, Role, Declared, Taken, Assigned, Iterates, InHeader, Occurrence, occurrence}
-use Rattle.species_ast.specs.Scope.Expressions.{ExprReading, ResolvedTarget, reading, target_in, value_of}
-use Rattle.species_ast.specs.Scope.Statements.{Fragment, Notes, Walk, PlacedWalk, fragment, names_only, in_order, declarator, change_fragment, change_by, change_by_one, assigned_names, assigned, operated, increased, combined, one, line_of, mark_of, step_reading, iterator_role, what_at, loop_at, stmt_at, stmt_fragment}
+use Rattle.species_ast.specs.Scope.Meanings.{Meaning, Scope, meaning_in, in_loop, is_among, behind, local_number, Role, Declared, Iterates, InHeader, Occurrence, occurrence}
+use Rattle.species_ast.specs.Scope.Expressions.{ExprReading, ResolvedTarget, reading, target_in}
+use Rattle.species_ast.specs.Scope.Statements.{Fragment, Walk, PlacedWalk, fragment, names_only, in_order, declarator, change_fragment, change_by, change_by_one, assigned, operated, increased, combined, one, line_of, mark_of, step_reading, iterator_role, what_at, loop_at, stmt_at, stmt_fragment}
 use Rattle.species_ast.proofs.Folds.{fold_stmt-Assign, fold_stmt-AddTo, fold_stmt-Declare, fold_stmt-SetLocal, fold_stmt-If, fold_stmt-For, fold_stmt-Block, fold_loop}
 use Rattle.species_ast.proofs.Induction.{Each}
 use Rattle.species_lawful.proofs.TwoWalks.{local_in_scope, init_names, shape}

@@ -1,6 +1,6 @@
 -- In the unit of a lawful program each loop has an iterator whose name is not that of a loop around it.
 use Rattle.std.proofs.Common.{◌≡◌, ◌∙◌, refl, sym, ap, subst, ℕ, suc, List, [], ◌∷◌, ◌++◌, map, length, Option, Some, None, Bool, true, false, ◌&&◌, not, if◌then◌else◌}
-use Rattle.std.specs.Prelude.{is_some, Ok}
+use Rattle.std.specs.Prelude.{Ok}
 use Rattle.std.specs.List.{list_all, flat_map, filter, filter_map}
 use Rattle.std.proofs.lemmas.Bool.{and_parts, and_from}
 use Rattle.std.proofs.lemmas.List.Folds.{list_all-append}

@@ -1,24 +1,19 @@
 -- The unit of a text that is read can be written, so its loops and arrays have names of the language.
-use Rattle.std.proofs.Common.{◌≡◌, ◌∙◌, ap, sym, refl, subst, arith, ℕ, ◌<◌, Bool, true, ◌&&◌, List, [], ◌∷◌, ◌++◌, map, length, None}
-use Rattle.std.specs.Prelude.{Ok}
+use Rattle.std.proofs.Common.{◌≡◌, ◌∙◌, ap, sym, refl, subst, arith, ℕ, ◌<◌, true, ◌&&◌, List, [], ◌∷◌, ◌++◌, map, length}
 use Rattle.std.specs.List.{list_all}
 use Rattle.std.proofs.lemmas.Bool.{and_parts, and_from}
 use Rattle.species_ast.specs.Marks.{all_true}
 use Rattle.species_ast.specs.Names.{is_name}
-use Rattle.species_ast.specs.Reading.{IsAccepted}
-use Rattle.species_ast.specs.Scope.Conditions.{refusal_of, resolved}
+use Rattle.species_ast.specs.Scope.Conditions.{refusal_of}
 use Rattle.species_ast.specs.Scope.Programs.{program_of}
-use Rattle.species_ast.specs.declared.raw.RawUnit.{RawUnit}
 use Rattle.species_ast.specs.declared.tree.Array.{Array}
-use Rattle.species_ast.specs.declared.tree.Loop.{Loop, roll-Loop}
+use Rattle.species_ast.specs.declared.tree.Loop.{roll-Loop}
 use Rattle.species_ast.specs.declared.tree.Stmt.{Stmt}
-use Rattle.species_ast.specs.declared.tree.Stmt.TheOpen.{Stmt-F, Loop-F}
-use Rattle.species_ast.specs.declared.tree.Stmt.TheVariants as stmt
+use Rattle.species_ast.specs.declared.tree.Stmt.TheOpen.{Stmt-F}
 use Rattle.species_ast.specs.declared.tree.Unit.{Unit as Program}
 use Rattle.species_ast.proofs.Folds.{fold_stmt-Assign, fold_stmt-AddTo, fold_stmt-Declare, fold_stmt-SetLocal, fold_stmt-If, fold_stmt-For, fold_stmt-Block, fold_loop, folded_layer}
 use Rattle.species_ast.proofs.Induction.{Each, each_all, stmt_ind}
-use Rattle.species_plan_truth.proofs.LineNames.{IsNamedUnit, UnitsAreNamed}
-use Rattle.species_plan_truth.proofs.LineReadable.{HaveDimensions}
+use Rattle.species_plan_truth.proofs.LineNames.{UnitsAreNamed}
 use Rattle.species_plan_truth.proofs.TruthLawful.{read_lawful}
 use Rattle.species_plan_truth.proofs.TruthNames.{named_at, named_within, named}
 use Rattle.species_readback.specs.Meant.{is_some_size, has_sizes}

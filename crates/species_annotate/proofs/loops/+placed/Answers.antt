@@ -1,7 +1,6 @@
-use Rattle.std.proofs.Common.{◌≡◌, ◌∙◌, ◌++◌, ◌+◌, ap, sym, true}
+use Rattle.std.proofs.Common.{◌∙◌, ◌+◌, ap, sym}
 use Rattle.species_ast.specs.Scope.Loops.{numbered}
 use Rattle.species_ranges.specs.Fitting.{fits_in}
-use Rattle.species_annotate.specs.Loops.{heads_in}
 use Rattle.species_annotate.proofs.HeadLemmas.{next_heads, all_heads, fits_there, if_heads, block_heads, for_heads, loop_heads, none_heads, heads-Assign, heads-AddTo, heads-Declare, heads-SetLocal}
 use Rattle.species_annotate.proofs.loops.+placed.Goals as goal
 
