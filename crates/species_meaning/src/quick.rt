@@ -1,6 +1,6 @@
 //! Values of `int`, the usual case, found without an answer in which a trap or another kind could stand.
 //! None says nothing: then `eval` and `target` give the answer. These call nothing of here, so no part of an expression
-//! is evaluated more than three times.
+//! is evaluated more than twice.
 ghost use Rattle.std.specs.Prelude.{◌≡◌, Ok, Some, IfSome};
 ghost use Rattle.species_ast.specs.declared.tree.Kind.TheVariants as kind;
 ghost use Rattle.species_ast.specs.declared.tree.Binary.TheVariants as binary;
@@ -152,7 +152,7 @@ fn leaf(frame: &Frame, e: &Expr) -> Option<i32>
     }
 }
 
-/// An operator on two of these.
+/// A sum, difference or product of two of these.
 #[inline(always)]
 fn leaves(frame: &Frame, op: Binary, a: &Expr, b: &Expr) -> Option<i32>
     ensures { IfSome result (λ n. (w : Context) (m : Cells) → and_then (value w a.now frame.now m) (λ x. and_then (value w b.now frame.now m) (λ y. answer_in (binary_of op x y))) ≡ Ok (Int n)) }
