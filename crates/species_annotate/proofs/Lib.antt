@@ -1,4 +1,4 @@
-mod FoldLemmas
+pub mod FoldLaws
 mod HeadLemmas
 mod MadeLemmas
 mod NameLemmas

@@ -21,7 +21,7 @@ use Rattle.species_ast.specs.Scope.WellMade.{Around, Made, made, made_at, made_l
 use Rattle.species_ast.proofs.Folds.{fold_stmt-Assign, fold_stmt-AddTo, fold_stmt-Declare, fold_stmt-SetLocal, fold_stmt-If, fold_stmt-For, fold_stmt-Block, fold_loop}
 use Rattle.species_ast.proofs.Induction.{Each, each_all, stmt_ind}
 use Rattle.species_ast.proofs.StripKeeps.{Stays, strip-larger_than}
-use Rattle.species_annotate.proofs.FoldLemmas.{bare, layer, bare_layer, with_body, mapped, bare_fold}
+use Rattle.species_annotate.proofs.FoldLaws.{bare, layer, bare_layer, with_body, mapped, bare_fold}
 
 -- ---- locals
 

@@ -24,3 +24,5 @@ mod TruthLawful
 mod TruthNames
 mod LineNames
 mod TruthSpelt
+mod SpeltTexts
+pub mod SpeltLaws
