@@ -8,6 +8,7 @@ use Rattle.species_ast.specs.declared.tree.Unit.{Unit as Program}
 use Rattle.species_lines.specs.Lines.{Standing}
 use Rattle.species_plan_truth.specs.Truth.{IsPlanned, IsTrueLine, around_nest}
 use Rattle.species_print.specs.Units.{canonical_text}
+use Rattle.species_readback.specs.ReadBack.{IsReadBack}
 use Rattle.species_reading.specs.Answers.{IsResolved}
 use Rattle.species_report.specs.Table.{IsTable}
 use Rattle.species_truth.specs.Truth.{IsTrueTable}
@@ -32,12 +33,13 @@ abbrev pub HasTrueLines : Program → Type 0
 HasTrueLines u = (s : Standing) (nest : Nest) → IsPlanned (source_of u) s nest
     → IsTrueLine (source_of u) s nest.gathered (plan_line (source_of u) (around_nest s) s.head nest).text
 
--- The text is the canonical text of the annotated unit, whose lines are true.
+-- The text is the canonical text of the annotated unit, whose lines are true; and it is read back as that unit, up to places.
 pub record IsAnnotatedText (u : Program) (text : List ℕ) : Type 0 where
   pub lined : Program
   pub annotated : IsAnnotated u lined
   pub lines : HasTrueLines u
   pub is : text ≡ canonical_text lined
+  pub back : IsReadBack lined
 
 -- ---- each command
 

@@ -9,6 +9,7 @@ use species_annotate::annotate;
 use species_ast::{OutOfMemory, Unit};
 use species_plan_truth::law_lines;
 use species_print::print;
+use species_readback::law_marked_read_back;
 use species_report::table;
 use species_truth::law_table;
 use species_words::{Command, read_words};
@@ -56,7 +57,7 @@ fn arcs_text(alloc: Global, unit: &Unit) -> Result<Vec<u8>, OutOfMemory>
     Ok(text)
 }
 
-/// The text with a species line at each planned loop, true in each run.
+/// The text with a species line at each planned loop, true in each run, and read back as it was written.
 fn annotated_text(alloc: Global, unit: &Unit) -> Result<Vec<u8>, OutOfMemory>
     requires { IsWellMade unit.now }
     ensures { IfOk result (λ text. (bytes : List ℕ) → IsProgram bytes unit.now → IsTextOf program_command.Annotate unit.now text.items) }
@@ -64,6 +65,7 @@ fn annotated_text(alloc: Global, unit: &Unit) -> Result<Vec<u8>, OutOfMemory>
     let lined = annotate(alloc, unit)?;
     let text = print(alloc, &lined)?;
     law_lines();
+    law_marked_read_back();
     Ok(text)
 }
 
