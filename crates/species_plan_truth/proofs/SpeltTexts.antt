@@ -329,18 +329,23 @@ pub record HasWords (names : Names) : Type 0 where
 
 front_good : (names : Names) → HasWords names → (a : Arc) → AreGood (arc_front (written_arc names a))
 front_good names h a =
-    let ranges : List RawRange = map (written_range names.iters) a.dims in
-    (text_at names.arrays a.array h.arrays,
-    (refl,
-    each_append Good (listed_parts 44 range_parts ranges) (sign 93 ∷ sign 124 ∷ name (word_text (word_of a)) ∷ offsets_parts (written_offsets (word_of a) a.dims))
-    (listed_good 44 range_parts ranges refl (each_mapped (λ (r : RawRange). AreGood (range_parts r)) (written_range names.iters) a.dims (range_good names.iters h.iters)))
-    (refl, (refl, (word_good (word_of a), offsets_good (word_of a) a.dims)))))
+    let ranges : List RawRange = map (written_range names.iters) a.dims in (
+      text_at names.arrays a.array h.arrays,
+      (
+        refl,
+        each_append Good (listed_parts 44 range_parts ranges) (sign 93 ∷ sign 124 ∷ name (word_text (word_of a)) ∷ offsets_parts (written_offsets (word_of a) a.dims))
+            (listed_good 44 range_parts ranges refl (each_mapped (λ (r : RawRange). AreGood (range_parts r)) (written_range names.iters) a.dims (range_good names.iters h.iters)))
+            (refl, (refl, (word_good (word_of a), offsets_good (word_of a) a.dims))),
+      ),
+    )
 
 forms_good : (names : Names) → HasWords names → (a : Arc) → AreGood (arc_forms (written_arc names a))
 forms_good names h a =
-    let forms : List RawForm = map (λ (d : ArcDim). written_form names.iters d.at) a.dims in
-    (refl, each_append Good (listed_parts 44 form_parts forms) (sign 41 ∷ [])
-    (listed_good 44 form_parts forms refl (each_mapped (λ (f : RawForm). AreGood (form_parts f)) (λ (d : ArcDim). written_form names.iters d.at) a.dims (λ d. form_good names.iters h.iters d.at))) (refl, tt))
+    let forms : List RawForm = map (λ (d : ArcDim). written_form names.iters d.at) a.dims in (
+      refl,
+      each_append Good (listed_parts 44 form_parts forms) (sign 41 ∷ [])
+          (listed_good 44 form_parts forms refl (each_mapped (λ (f : RawForm). AreGood (form_parts f)) (λ (d : ArcDim). written_form names.iters d.at) a.dims (λ d. form_good names.iters h.iters d.at))) (refl, tt),
+    )
 
 arc_good : (names : Names) → HasWords names → (a : Arc) → AreGoodPieces (arc_pieces (written_arc names a))
 arc_good names h a =
