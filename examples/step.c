@@ -4,7 +4,7 @@ unsigned h[16];
 void step(void) {
     for (int t = 0; t < 10; t++) {
         for (int i = 1; i < 95; i++) {
-            B[i] = A[i - 1] + A[i] + A[i + 1];
+            B[i] = A[i - 1] + 2 * A[i] + A[i + 1];
         }
         for (int j = 1; j < 95; j++) {
             A[j] = B[j];
