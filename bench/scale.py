@@ -1,4 +1,4 @@
-"""The texts of scale.sh, written into a folder: python3 scale.py FOLDER [BYTES, in place of a MiB]"""
+"""The texts of scale.sh and annotate.sh, written into a folder: python3 scale.py FOLDER [BYTES, in place of a MiB]"""
 import sys
 
 LIMIT = 4194304
@@ -52,10 +52,28 @@ def references(count):
     return "".join(lines) + "        }\n    }\n}\n"
 
 
+def deep(count, differ):
+    """One nest of eight loops with so many references of one array, four in each statement: all with one form, or each with its own.
+
+    The loops have two turns each, and each iteration has an element of its own for each form, so no level carries a pair."""
+    iterators = "ijklmnop"
+    form = " + ".join(["%d * %s" % (2 ** (7 - k), name) for k, name in enumerate(iterators[:7])] + [iterators[7]])
+    lines = ["int first[%d];\nvoid kernel(void) {\n" % (256 * count)]
+    for k, name in enumerate(iterators):
+        lines.append("    " * (k + 1) + "for (int %s = 0; %s < 2; %s++) {\n" % (name, name, name))
+    for statement in range(count // 4):
+        elements = ["first[%s + %d]" % (form, 256 * (4 * statement + k) if differ else 0) for k in range(4)]
+        lines.append("    " * 9 + "%s = %s;\n" % (elements[0], " + ".join(elements[1:])))
+    for k in range(8, -1, -1):
+        lines.append("    " * k + "}\n")
+    return "".join(lines)
+
+
 def main():
     folder = sys.argv[1]
     unit = int(sys.argv[2]) if len(sys.argv) > 2 else 1048576
-    texts = {"references-512": references(512)}
+    texts = {"references-512": references(512), "deep-equal": deep(512, False), "deep-different": deep(512, True),
+             "nests-small": nests(8192)}
     for times in (1, 2, 4):
         texts["accepted-%d" % times] = accepted(times * unit)
         # refused at its end: the last bracket is a blank
