@@ -21,25 +21,7 @@ done
 
 python3 "$top/bench/scale.py" "$folder"
 
-measure() { # FILE COMMAND..: status, seconds of processor and KiB
-    if ! command -v "$2" > /dev/null; then
-        echo '- - -'
-        return
-    fi
-    python3 - "$@" <<'PY'
-import resource, subprocess, sys
-run = subprocess.run(sys.argv[2:], stdin=open(sys.argv[1]), stdout=subprocess.DEVNULL, stderr=subprocess.DEVNULL)
-used = resource.getrusage(resource.RUSAGE_CHILDREN)
-print("%d %.3f %d" % (run.returncode, used.ru_utime + used.ru_stime, used.ru_maxrss))
-PY
-}
-
-ratio() { # SECONDS SECONDS
-    case $2 in
-    -) echo - ;;
-    *) awk -v a="$1" -v b="$2" 'BEGIN { printf "%.2f\n", a / (b < 0.001 ? 0.001 : b) }' ;;
-    esac
-}
+. "$top/bench/measure.sh"
 
 printf '%-14s %9s %6s | %8s %8s | %8s %8s | %8s %8s | %8s %8s | %6s %6s\n' \
     input bytes status species KiB cat KiB gcc KiB clang KiB /gcc /clang
